@@ -1,0 +1,3 @@
+//! What instructions are given: registers, immediates, conditions.
+
+pub mod reg;
