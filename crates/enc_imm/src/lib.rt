@@ -45,7 +45,7 @@ pub fn enc_ri_a(opcode: u16, r1: Reg, i2: u16) -> ([u8; 4], u8)
     let opcode2 = (opcode & 0xf) as u8;
     let r1 = r1.number & 0x0f;
     enc[0] = opcode1;
-    enc[1] = r1 << 4 | opcode2;
+    enc[1] = r1 << 4 | opcode2; // RI-a: ap
     enc[2..].copy_from_slice(&i2.to_be_bytes());
     (enc, 0)
 }
@@ -68,7 +68,7 @@ pub fn enc_ri_b(opcode: u16, r1: Reg, ri2: i32) -> ([u8; 4], u8)
     let r1 = r1.number & 0x0f;
     let ri2 = ((ri2 >> 1) & 0xffff) as u16;
     enc[0] = opcode1;
-    enc[1] = r1 << 4 | opcode2;
+    enc[1] = r1 << 4 | opcode2; // RI-b: ap
     enc[2..].copy_from_slice(&ri2.to_be_bytes());
     (enc, 0)
 }
@@ -88,7 +88,7 @@ pub fn enc_ri_c(opcode: u16, m1: u8, ri2: i32) -> ([u8; 4], u8)
     let m1 = m1 & 0x0f;
     let ri2 = ((ri2 >> 1) & 0xffff) as u16;
     enc[0] = opcode1;
-    enc[1] = m1 << 4 | opcode2;
+    enc[1] = m1 << 4 | opcode2; // RI-c: ap
     enc[2..].copy_from_slice(&ri2.to_be_bytes());
     (enc, 0)
 }
@@ -209,7 +209,7 @@ pub fn enc_ril_a(opcode: u16, r1: Reg, i2: u32) -> ([u8; 6], u8)
     let opcode2 = (opcode & 0xf) as u8;
     let r1 = r1.number & 0x0f;
     enc[0] = opcode1;
-    enc[1] = r1 << 4 | opcode2;
+    enc[1] = r1 << 4 | opcode2; // RIL-a: ap
     enc[2..].copy_from_slice(&i2.to_be_bytes());
     (enc, 0)
 }
@@ -230,7 +230,7 @@ pub fn enc_ril_b(opcode: u16, r1: Reg, ri2: u32) -> ([u8; 6], u8)
     let opcode1 = ((opcode >> 4) & 0xff) as u8;
     let opcode2 = (opcode & 0xf) as u8;
     let r1 = r1.number & 0x0f;
-    let ri2 = ri2 >> 1;
+    let ri2 = ri2 >> 1; // RIL-b
     enc[0] = opcode1;
     enc[1] = r1 << 4 | opcode2;
     enc[2..].copy_from_slice(&ri2.to_be_bytes());
@@ -252,7 +252,7 @@ pub fn enc_ril_c(opcode: u16, m1: u8, ri2: u32) -> ([u8; 6], u8)
     let m1 = m1 & 0x0f;
     let ri2 = ri2 >> 1;
     enc[0] = opcode1;
-    enc[1] = m1 << 4 | opcode2;
+    enc[1] = m1 << 4 | opcode2; // RIL-c: ap
     enc[2..].copy_from_slice(&ri2.to_be_bytes());
     (enc, 0)
 }

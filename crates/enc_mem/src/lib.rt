@@ -78,7 +78,7 @@ pub fn enc_rre(opcode: u16, r1: Reg, r2: Reg) -> ([u8; 4], u8)
     let r2 = r2.number & 0x0f;
     enc[0] = opcode1;
     enc[1] = opcode2;
-    enc[3] = r1 << 4 | r2;
+    enc[3] = r1 << 4 | r2; // RRE: ab
     (enc, 0)
 }
 
@@ -154,7 +154,7 @@ pub fn enc_rs(opcode: u16, r1: Reg, r3: Reg, b2: Reg, d2: u32) -> ([u8; 4], u8)
     let d2_lo = (d2 & 0xff) as u8;
     let d2_hi = ((d2 >> 8) & 0x0f) as u8;
     enc[0] = opcode;
-    enc[1] = r1 << 4 | r3;
+    enc[1] = r1 << 4 | r3; // RS: ab
     enc[2] = b2 << 4 | d2_hi;
     enc[3] = d2_lo;
     (enc, 0)
@@ -182,7 +182,7 @@ pub fn enc_rsy(opcode: u16, r1: Reg, r3: Reg, b2: Reg, d2: u32) -> ([u8; 6], u8)
     let dl2_hi = ((d2 >> 8) & 0x0f) as u8;
     let dh2 = ((d2 >> 12) & 0xff) as u8;
     enc[0] = opcode1;
-    enc[1] = r1 << 4 | r3;
+    enc[1] = r1 << 4 | r3; // RSY: ab
     enc[2] = b2 << 4 | dl2_hi;
     enc[3] = dl2_lo;
     enc[4] = dh2;
@@ -211,7 +211,7 @@ pub fn enc_rx(opcode: u16, r1: Reg, b2: Reg, x2: Reg, d2: u32) -> ([u8; 4], u8)
     let d2_hi = ((d2 >> 8) & 0x0f) as u8;
     enc[0] = opcode;
     enc[1] = r1 << 4 | x2;
-    enc[2] = b2 << 4 | d2_hi;
+    enc[2] = b2 << 4 | d2_hi; // RX: bd
     enc[3] = d2_lo;
     (enc, 0)
 }
@@ -238,7 +238,7 @@ pub fn enc_rxy(opcode: u16, r1: Reg, b2: Reg, x2: Reg, d2: u32) -> ([u8; 6], u8)
     let dl2_hi = ((d2 >> 8) & 0x0f) as u8;
     let dh2 = ((d2 >> 12) & 0xff) as u8;
     enc[0] = opcode1;
-    enc[1] = r1 << 4 | x2;
+    enc[1] = r1 << 4 | x2; // RXY: ac
     enc[2] = b2 << 4 | dl2_hi;
     enc[3] = dl2_lo;
     enc[4] = dh2;
@@ -265,7 +265,7 @@ pub fn enc_si(opcode: u16, b1: Reg, d1: u32, i2: u8) -> ([u8; 4], u8)
     let d1_hi = ((d1 >> 8) & 0x0f) as u8;
     enc[0] = opcode;
     enc[1] = i2;
-    enc[2] = b1 << 4 | d1_hi;
+    enc[2] = b1 << 4 | d1_hi; // SI: ab
     enc[3] = d1_lo;
     (enc, 0)
 }
@@ -290,7 +290,7 @@ pub fn enc_sil(opcode: u16, b1: Reg, d1: u32, i2: i16) -> ([u8; 6], u8)
     let d1_hi = ((d1 >> 8) & 0x0f) as u8;
     enc[0] = opcode1;
     enc[1] = opcode2;
-    enc[2] = b1 << 4 | d1_hi;
+    enc[2] = b1 << 4 | d1_hi; // SIL: ab
     enc[3] = d1_lo;
     enc[4..].copy_from_slice(&i2.to_be_bytes());
     (enc, 0)

@@ -7,11 +7,11 @@ ghost use mathlib.Core.List.{[], _∷_};
 ghost use lib.IntN.{pos};
 ghost use Rattle.form.specs.declared.Form.the-variants.{VriA, VriB, VriC, VriK, VrrA, VrrB, VrrC, VrrD, VrrE, VrrF, VrsA, VrsB, VrsC, Vrx};
 ghost use Rattle.form.specs.Encoders.{encoder, register, numeral};
-use rxb::rxb;
 use operand::reg::Reg;
 use operand::reg::is_gpr;
 use operand::reg::is_vr;
 use refusal::Reason;
+use rxb::rxb;
 
 pub mod rxb;
 
@@ -36,7 +36,7 @@ pub fn enc_vri_a(opcode: u16, v1: Reg, i2: u16, m3: u8) -> ([u8; 6], u8)
     enc[0] = opcode1;
     enc[1] = v1 << 4;
     enc[2..4].copy_from_slice(&i2.to_be_bytes());
-    enc[4] = m3 << 4 | rxb;
+    enc[4] = m3 << 4 | rxb; // VRI-a: cx
     enc[5] = opcode2;
     (enc, 0)
 }
@@ -88,7 +88,7 @@ pub fn enc_vri_c(opcode: u16, v1: Reg, i2: u16, v3: Reg, m4: u8) -> ([u8; 6], u8
     let v3 = v3.number & 0x0f;
     let m4 = m4 & 0x0f;
     enc[0] = opcode1;
-    enc[1] = v1 << 4 | v3;
+    enc[1] = v1 << 4 | v3; // VRI-c: ac
     enc[2..4].copy_from_slice(&i2.to_be_bytes());
     enc[4] = m4 << 4 | rxb;
     enc[5] = opcode2;
@@ -110,7 +110,7 @@ pub fn enc_vri_k(opcode: u16, i5: u8, v1: Reg, v2: Reg, v3: Reg, v4: Reg) -> ([u
     }
     let opcode1 = ((opcode >> 8) & 0xff) as u8;
     let opcode2 = (opcode & 0xff) as u8;
-    let rxb = rxb(Some(v1), Some(v2), Some(v3), Some(v4));
+    let rxb = rxb(Some(v1), Some(v2), Some(v3), Some(v4)); // VRI-k
     let v1 = v1.number & 0x0f;
     let v2 = v2.number & 0x0f;
     let v3 = v3.number & 0x0f;
@@ -169,7 +169,7 @@ pub fn enc_vrr_b(opcode: u16, v1: Reg, v2: Reg, v3: Reg, m4: u8, m5: u8) -> ([u8
     }
     let opcode1 = ((opcode >> 8) & 0xff) as u8;
     let opcode2 = (opcode & 0xff) as u8;
-    let rxb = rxb(Some(v1), Some(v2), Some(v3), None);
+    let rxb = rxb(Some(v1), Some(v2), Some(v3), None); // VRR-b
     let v1 = v1.number & 0x0f;
     let v2 = v2.number & 0x0f;
     let v3 = v3.number & 0x0f;
@@ -261,7 +261,7 @@ pub fn enc_vrr_e(opcode: u16, v1: Reg, v2: Reg, v3: Reg, v4: Reg, m5: u8, m6: u8
     }
     let opcode1 = ((opcode >> 8) & 0xff) as u8;
     let opcode2 = (opcode & 0xff) as u8;
-    let rxb = rxb(Some(v1), Some(v2), Some(v3), Some(v4));
+    let rxb = rxb(Some(v1), Some(v2), Some(v3), Some(v4)); // VRR-e
     let v1 = v1.number & 0x0f;
     let v2 = v2.number & 0x0f;
     let v3 = v3.number & 0x0f;
@@ -319,7 +319,7 @@ pub fn enc_vrs_a(opcode: u16, v1: Reg, b2: Reg, d2: u32, v3: Reg, m4: u8) -> ([u
     }
     let opcode1 = ((opcode >> 8) & 0xff) as u8;
     let opcode2 = (opcode & 0xff) as u8;
-    let rxb = rxb(Some(v1), Some(v3), None, None);
+    let rxb = rxb(Some(v1), Some(v3), None, None); // VRS-a
     let v1 = v1.number & 0x0f;
     let b2 = b2.number & 0x0f;
     let v3 = v3.number & 0x0f;

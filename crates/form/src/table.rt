@@ -18,13 +18,21 @@ pub enum OpcodeDigits {
 // By the form's number.
 const SIZES: [usize; 37] = [
     2, // E
-    4, 4, 4, // RI
-    6, 6, 6, 6, // RIE
-    6, 6, 6, // RIL
+    4, // RI-a
+    4, // RI-b
+    4, // RI-c
+    6, // RIE-a
+    6, // RIE-d
+    6, // RIE-f
+    6, // RIE-g
+    6, // RIL-a
+    6, // RIL-b
+    6, // RIL-c
     2, // RR
     4, // RRD
     4, // RRE
-    4, 4, // RRF
+    4, // RRF-ab
+    4, // RRF-cde
     4, // RS
     6, // RSY
     4, // RX
@@ -32,21 +40,39 @@ const SIZES: [usize; 37] = [
     4, // SI
     6, // SIL
     6, // SIY
-    6, 6, 6, 6, // VRI
-    6, 6, 6, 6, 6, 6, // VRR
-    6, 6, 6, // VRS
+    6, // VRI-a
+    6, // VRI-b
+    6, // VRI-c
+    6, // VRI-k
+    6, // VRR-a
+    6, // VRR-b
+    6, // VRR-c
+    6, // VRR-d
+    6, // VRR-e
+    6, // VRR-f
+    6, // VRS-a
+    6, // VRS-b
+    6, // VRS-c
     6, // VRX
 ];
 
 const OPCODE_DIGITS: [OpcodeDigits; 37] = [
     OpcodeDigits::FourFront, // E
-    OpcodeDigits::Three, OpcodeDigits::Three, OpcodeDigits::Three, // RI
-    OpcodeDigits::FourEnds, OpcodeDigits::FourEnds, OpcodeDigits::FourEnds, OpcodeDigits::FourEnds, // RIE
-    OpcodeDigits::Three, OpcodeDigits::Three, OpcodeDigits::Three, // RIL
+    OpcodeDigits::Three, // RI-a
+    OpcodeDigits::Three, // RI-b
+    OpcodeDigits::Three, // RI-c
+    OpcodeDigits::FourEnds, // RIE-a
+    OpcodeDigits::FourEnds, // RIE-d
+    OpcodeDigits::FourEnds, // RIE-f
+    OpcodeDigits::FourEnds, // RIE-g
+    OpcodeDigits::Three, // RIL-a
+    OpcodeDigits::Three, // RIL-b
+    OpcodeDigits::Three, // RIL-c
     OpcodeDigits::Two, // RR
     OpcodeDigits::FourFront, // RRD
     OpcodeDigits::FourFront, // RRE
-    OpcodeDigits::FourFront, OpcodeDigits::FourFront, // RRF
+    OpcodeDigits::FourFront, // RRF-ab
+    OpcodeDigits::FourFront, // RRF-cde
     OpcodeDigits::Two, // RS
     OpcodeDigits::FourEnds, // RSY
     OpcodeDigits::Two, // RX
@@ -54,9 +80,19 @@ const OPCODE_DIGITS: [OpcodeDigits; 37] = [
     OpcodeDigits::Two, // SI
     OpcodeDigits::FourFront, // SIL
     OpcodeDigits::FourEnds, // SIY
-    OpcodeDigits::FourEnds, OpcodeDigits::FourEnds, OpcodeDigits::FourEnds, OpcodeDigits::FourEnds, // VRI
-    OpcodeDigits::FourEnds, OpcodeDigits::FourEnds, OpcodeDigits::FourEnds, OpcodeDigits::FourEnds, OpcodeDigits::FourEnds, OpcodeDigits::FourEnds, // VRR
-    OpcodeDigits::FourEnds, OpcodeDigits::FourEnds, OpcodeDigits::FourEnds, // VRS
+    OpcodeDigits::FourEnds, // VRI-a
+    OpcodeDigits::FourEnds, // VRI-b
+    OpcodeDigits::FourEnds, // VRI-c
+    OpcodeDigits::FourEnds, // VRI-k
+    OpcodeDigits::FourEnds, // VRR-a
+    OpcodeDigits::FourEnds, // VRR-b
+    OpcodeDigits::FourEnds, // VRR-c
+    OpcodeDigits::FourEnds, // VRR-d
+    OpcodeDigits::FourEnds, // VRR-e
+    OpcodeDigits::FourEnds, // VRR-f
+    OpcodeDigits::FourEnds, // VRS-a
+    OpcodeDigits::FourEnds, // VRS-b
+    OpcodeDigits::FourEnds, // VRS-c
     OpcodeDigits::FourEnds, // VRX
 ];
 
@@ -93,7 +129,13 @@ impl Form {
             Form::RiC => &[OperandKind::M, OperandKind::H16],
             Form::RieA => &[OperandKind::G, OperandKind::U16, OperandKind::M],
             Form::RieD => &[OperandKind::G, OperandKind::G, OperandKind::U16],
-            Form::RieF => &[OperandKind::G, OperandKind::G, OperandKind::U8, OperandKind::U8, OperandKind::U8],
+            Form::RieF => &[
+                OperandKind::G,
+                OperandKind::G,
+                OperandKind::U8,
+                OperandKind::U8,
+                OperandKind::U8,
+            ],
             Form::RieG => &[OperandKind::G, OperandKind::U16, OperandKind::M],
             Form::RilA => &[OperandKind::G, OperandKind::U32],
             Form::RilB => &[OperandKind::G, OperandKind::H32],
@@ -101,29 +143,132 @@ impl Form {
             Form::Rr => &[OperandKind::N, OperandKind::N],
             Form::Rrd => &[OperandKind::F, OperandKind::F, OperandKind::F],
             Form::Rre => &[OperandKind::N, OperandKind::N],
-            Form::RrfAb => &[OperandKind::N, OperandKind::N, OperandKind::N, OperandKind::M],
-            Form::RrfCde => &[OperandKind::N, OperandKind::N, OperandKind::M, OperandKind::M],
-            Form::Rs => &[OperandKind::N, OperandKind::N, OperandKind::G, OperandKind::D12],
-            Form::Rsy => &[OperandKind::N, OperandKind::N, OperandKind::G, OperandKind::D20],
-            Form::Rx => &[OperandKind::N, OperandKind::G, OperandKind::G, OperandKind::D12],
-            Form::Rxy => &[OperandKind::N, OperandKind::G, OperandKind::G, OperandKind::D20],
+            Form::RrfAb => &[
+                OperandKind::N,
+                OperandKind::N,
+                OperandKind::N,
+                OperandKind::M,
+            ],
+            Form::RrfCde => &[
+                OperandKind::N,
+                OperandKind::N,
+                OperandKind::M,
+                OperandKind::M,
+            ],
+            Form::Rs => &[
+                OperandKind::N,
+                OperandKind::N,
+                OperandKind::G,
+                OperandKind::D12,
+            ],
+            Form::Rsy => &[
+                OperandKind::N,
+                OperandKind::N,
+                OperandKind::G,
+                OperandKind::D20,
+            ],
+            Form::Rx => &[
+                OperandKind::N,
+                OperandKind::G,
+                OperandKind::G,
+                OperandKind::D12,
+            ],
+            Form::Rxy => &[
+                OperandKind::N,
+                OperandKind::G,
+                OperandKind::G,
+                OperandKind::D20,
+            ],
             Form::Si => &[OperandKind::G, OperandKind::D12, OperandKind::U8],
             Form::Sil => &[OperandKind::G, OperandKind::D12, OperandKind::S16],
             Form::Siy => &[OperandKind::G, OperandKind::D20, OperandKind::U8],
             Form::VriA => &[OperandKind::V, OperandKind::U16, OperandKind::M],
-            Form::VriB => &[OperandKind::V, OperandKind::U8, OperandKind::U8, OperandKind::M],
-            Form::VriC => &[OperandKind::V, OperandKind::U16, OperandKind::V, OperandKind::M],
-            Form::VriK => &[OperandKind::U8, OperandKind::V, OperandKind::V, OperandKind::V, OperandKind::V],
-            Form::VrrA => &[OperandKind::V, OperandKind::V, OperandKind::M, OperandKind::M, OperandKind::M],
-            Form::VrrB => &[OperandKind::V, OperandKind::V, OperandKind::V, OperandKind::M, OperandKind::M],
-            Form::VrrC => &[OperandKind::V, OperandKind::V, OperandKind::V, OperandKind::M, OperandKind::M, OperandKind::M],
-            Form::VrrD => &[OperandKind::V, OperandKind::V, OperandKind::V, OperandKind::V, OperandKind::M, OperandKind::M],
-            Form::VrrE => &[OperandKind::V, OperandKind::V, OperandKind::V, OperandKind::V, OperandKind::M, OperandKind::M],
+            Form::VriB => &[
+                OperandKind::V,
+                OperandKind::U8,
+                OperandKind::U8,
+                OperandKind::M,
+            ],
+            Form::VriC => &[
+                OperandKind::V,
+                OperandKind::U16,
+                OperandKind::V,
+                OperandKind::M,
+            ],
+            Form::VriK => &[
+                OperandKind::U8,
+                OperandKind::V,
+                OperandKind::V,
+                OperandKind::V,
+                OperandKind::V,
+            ],
+            Form::VrrA => &[
+                OperandKind::V,
+                OperandKind::V,
+                OperandKind::M,
+                OperandKind::M,
+                OperandKind::M,
+            ],
+            Form::VrrB => &[
+                OperandKind::V,
+                OperandKind::V,
+                OperandKind::V,
+                OperandKind::M,
+                OperandKind::M,
+            ],
+            Form::VrrC => &[
+                OperandKind::V,
+                OperandKind::V,
+                OperandKind::V,
+                OperandKind::M,
+                OperandKind::M,
+                OperandKind::M,
+            ],
+            Form::VrrD => &[
+                OperandKind::V,
+                OperandKind::V,
+                OperandKind::V,
+                OperandKind::V,
+                OperandKind::M,
+                OperandKind::M,
+            ],
+            Form::VrrE => &[
+                OperandKind::V,
+                OperandKind::V,
+                OperandKind::V,
+                OperandKind::V,
+                OperandKind::M,
+                OperandKind::M,
+            ],
             Form::VrrF => &[OperandKind::V, OperandKind::G, OperandKind::G],
-            Form::VrsA => &[OperandKind::V, OperandKind::G, OperandKind::D12, OperandKind::V, OperandKind::M],
-            Form::VrsB => &[OperandKind::V, OperandKind::G, OperandKind::D12, OperandKind::G, OperandKind::M],
-            Form::VrsC => &[OperandKind::G, OperandKind::G, OperandKind::D12, OperandKind::V, OperandKind::M],
-            Form::Vrx => &[OperandKind::V, OperandKind::G, OperandKind::G, OperandKind::D12, OperandKind::M],
+            Form::VrsA => &[
+                OperandKind::V,
+                OperandKind::G,
+                OperandKind::D12,
+                OperandKind::V,
+                OperandKind::M,
+            ],
+            Form::VrsB => &[
+                OperandKind::V,
+                OperandKind::G,
+                OperandKind::D12,
+                OperandKind::G,
+                OperandKind::M,
+            ],
+            Form::VrsC => &[
+                OperandKind::G,
+                OperandKind::G,
+                OperandKind::D12,
+                OperandKind::V,
+                OperandKind::M,
+            ],
+            Form::Vrx => &[
+                OperandKind::V,
+                OperandKind::G,
+                OperandKind::G,
+                OperandKind::D12,
+                OperandKind::M,
+            ],
         }
     }
 }

@@ -99,14 +99,22 @@ impl Refusal {
     pub fn at(place: usize, reason: Reason) -> Refusal
         ensures { λ r. ⌜ r ≡ refused-at place reason ⌝ }
     {
-        Refusal { reason, place, layer: reason.layer() }
+        Refusal {
+            reason,
+            place,
+            layer: reason.layer(),
+        }
     }
 
     /// A distance's refusal.
     pub fn of_distance(place: usize, reason: Reason) -> Refusal
         ensures { λ r. ⌜ r ≡ distance-refused-at place reason ⌝ }
     {
-        Refusal { reason, place, layer: Layer::Field }
+        Refusal {
+            reason,
+            place,
+            layer: Layer::Field,
+        }
     }
 }
 
