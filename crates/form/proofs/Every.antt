@@ -9,11 +9,9 @@ use lib.Dec.{eqb, lit<}
 use Rattle.form.specs.declared.Form.{Form}
 use Rattle.form.specs.declared.Form.the-variants.{E, RiA, RiB, RiC, RieA, RieD, RieF, RieG, RilA, RilB, RilC, Rr, Rrd, Rre, RrfAb, RrfCde, Rs, Rsy, Rx, Rxy, Si, Sil, Siy, VriA, VriB, VriC, VriK, VrrA, VrrB, VrrC, VrrD, VrrE, VrrF, VrsA, VrsB, VrsC, Vrx}
 use Rattle.form.specs.declared.table.OpcodeDigits.{OpcodeDigits}
-use Rattle.form.specs.Form.{row, kinds, size, opcode-digits, form-number}
+use Rattle.form.specs.Form.{size, opcode-digits, form-number}
 use Rattle.form.specs.Table.{places}
-use Rattle.form.specs.Inversion.{Reading-inverts-writing}
 use Rattle.form.proofs.Tests.{left, right, eqb-is, same, same-is}
-use Rattle.form.proofs.Rows.{sound, written-is-read, read-is-written}
 
 abbrev forms : List Form
 forms = E ∷ RiA ∷ RiB ∷ RiC ∷ RieA ∷ RieD ∷ RieF ∷ RieG ∷ RilA ∷ RilB ∷ RilC ∷ Rr ∷ Rrd ∷ Rre ∷ RrfAb ∷ RrfCde ∷ Rs ∷ Rsy ∷ Rx ∷ Rxy ∷ Si ∷ Sil ∷ Siy ∷ VriA ∷ VriB ∷ VriC ∷ VriK ∷ VrrA ∷ VrrB ∷ VrrC ∷ VrrD ∷ VrrE ∷ VrrF ∷ VrsA ∷ VrsB ∷ VrsC ∷ Vrx ∷ []
@@ -120,8 +118,3 @@ sizes xs e f = eqb-is (getD xs (form-number f) 0) (size f) (at-each (λ f. eqb (
 pub digit-places : (xs : List OpcodeDigits) (d : OpcodeDigits) → every (λ f. same (places (getD xs (form-number f) d)) (opcode-digits f)) ≡ true → (f : Form) → places (getD xs (form-number f) d) ≡ opcode-digits f
 digit-places xs d e f =
     same-is (places (getD xs (form-number f) d)) (opcode-digits f) (at-each (λ f. same (places (getD xs (form-number f) d)) (opcode-digits f)) e f)
-
-pub inversion : Reading-inverts-writing
-inversion = (λ f. written-is-read f (sound-row f), λ f. read-is-written f (sound-row f)) where
-  sound-row : (f : Form) → sound (row f) (kinds f) ≡ true
-  sound-row = at-each (λ f. sound (row f) (kinds f)) refl

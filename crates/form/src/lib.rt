@@ -1,6 +1,5 @@
 //! The instruction forms: their rows of hexadecimal digits, the kinds of their operands, and encoding and decoding by them.
 
-ghost use Rattle.form.specs.Inversion.{Reading-inverts-writing};
 ghost use Rattle.form.specs.Specimens.{Instruction-specimens};
 
 pub mod table;
@@ -73,11 +72,6 @@ pub enum OperandKind {
     /// an even distance, written halved in 32 bits
     H32,
 }
-
-/// For every form: what is encoded is decoded again, and bytes with no unused digit set are what encoding gives of what they decode to.
-pub fn reading_inverts_writing()
-    ensures { λ _. ⌜ Reading-inverts-writing ⌝ }
-{}
 
 /// Worked examples of single instructions hold of the definitions.
 pub fn specimens()

@@ -12,15 +12,15 @@ use lib.IntN.{ℤ, pos, negsuc, natAbs}
 use Rattle.std.specs.shelf.Lists.{All}
 use Rattle.std.proofs.shelf.Bits.{mod-below, mul-le}
 use Rattle.std.proofs.shelf.Ways.{tells}
 use Rattle.form.specs.declared.OperandKind.{OperandKind}
 use Rattle.form.specs.declared.OperandKind.the-variants.{G, N, V, F, M, U8, U16, U32, S16, D12, D20, H16, H32}
 use Rattle.form.specs.declared.Form.{Form}
 use Rattle.form.specs.Form.{Digit, op, arg, vec, unused, rxb, row, kinds, opcode-places}
-use Rattle.form.specs.Inversion.{Written-is-read-at, Read-is-written-at}
+use Rattle.inversion.specs.Inversion.{Written-is-read-at, Read-is-written-at}
 use Rattle.form.specs.Encode.{width, In, operand-bits, operands-bits, nibble, above, high, rxb-digit, value, pairs, nibbles, gather, opcode-part, operand-part, bit-part, bit-of, field-of, operands-from, six, is-vec, rxb-clean, digit-clean, all-clean, takes}
 use Rattle.form.proofs.Tests.{left, right, both, T-true, eqb-is, ltb-is, same, same-is}
-use Rattle.form.proofs.Orders.{Order, one, two, three, four, twenty, eight, listed, limit, sumw, whole, told}
-use Rattle.form.proofs.Fields.{bits, field-small, number-again, field-again}
+use Rattle.inversion.proofs.Orders.{Order, one, two, three, four, twenty, eight, listed, limit, sumw, whole, told}
+use Rattle.inversion.proofs.Fields.{bits, field-small, number-again, field-again}
 use Rattle.refusal.specs.Numbers.{from-bits}
 
 -- THE TEST of a row.

@@ -1,0 +1,4 @@
+pub mod Orders
+pub mod Fields
+pub mod Rows
+pub mod Inversion
