@@ -1,1 +1,2 @@
+pub mod Imms
 pub mod Registers
