@@ -1,0 +1,11 @@
+ghost use Prim.Native.Nat.{_<_};
+
+pub mod calls;
+pub mod display;
+
+/// Condition for conditional branches: the condition codes on which to branch.
+#[derive(Clone, Copy, PartialEq, Eq, Debug)]
+pub struct Cond {
+    mask: u8,
+    ghost small: { mask < 16 },
+}
