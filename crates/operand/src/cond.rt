@@ -1,7 +1,9 @@
 ghost use Prim.Native.Nat.{_<_};
 
-pub mod calls;
-pub mod display;
+mod calls;
+mod display;
+
+pub use display::CondDisplay;
 
 /// Condition for conditional branches: the condition codes on which to branch.
 #[derive(Clone, Copy, PartialEq, Eq, Debug)]

@@ -4,3 +4,5 @@ pub mod cond;
 pub mod condcodes;
 pub mod imms;
 pub mod reg;
+#[cfg(test)]
+mod tests;
