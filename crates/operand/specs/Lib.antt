@@ -1,1 +1,4 @@
+pub mod Conditions
+pub mod Imms
+pub mod Masks
 pub mod Registers
