@@ -6,5 +6,4 @@ ghost use Rattle.inversion.specs.Inversion.{Reading-inverts-writing};
 /// and no unused bit of RXB set are the encoding of what they decode to.
 pub fn reading_inverts_writing()
     ensures { λ _. ⌜ Reading-inverts-writing ⌝ }
-{
-}
+{}
