@@ -2,6 +2,7 @@
 
 ghost use Rattle.form.specs.Specimens.{Instruction-specimens};
 
+pub mod instr;
 pub mod table;
 
 /// The instruction forms, in the order of the encoders.
