@@ -4,7 +4,9 @@ use mathlib.Core.List.{List, [], _∷_}
 use Prim.Native.Nat.{ℕ, zero, suc, _<_}
 use native.Mathlib.Omega.{arith}
 use lib.ListN.{length}
-use Rattle.book.specs.Labels.{Slot, waiting, slot-of}
+use Rattle.book.specs.declared.target.Slot.{Slot}
+use Rattle.book.specs.declared.target.Slot.the-variants.{Waiting as waiting}
+use Rattle.book.specs.Labels.{slot-of}
 
 pub waiting-reserved : (ls : List Slot) (l : ℕ) → waiting ≡ slot-of ls l → l < length ls
 waiting-reserved [] l h = let z : _≡_ {A = ℕ} 0 1 = cc in absurd (omega arith)

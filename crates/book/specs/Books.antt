@@ -8,10 +8,11 @@ use Rattle.std.specs.declared.option.Option.{Option}
 use Rattle.std.specs.declared.option.Option.the-variants.{Some, None}
 use Rattle.refusal.specs.declared.Reason.the-variants as why
 use Rattle.refusal.specs.Refusals.{Checks, _when_}
-use Rattle.book.specs.Labels.{Target, to-label, to-symbol, Slot, slot-of, is-waiting, is-usable}
-
--- a field to fill: its instruction's place, the family's kind, and the target
-pub use Rattle.book.specs.declared.target.Use.{Use}
+use Rattle.book.specs.declared.target.Target.{Target}
+use Rattle.book.specs.declared.target.Target.the-variants.{Label as to-label, Symbol as to-symbol}
+use Rattle.book.specs.declared.target.Slot.{Slot}
+use Rattle.book.specs.declared.target.Use.{Use}
+use Rattle.book.specs.Labels.{slot-of, is-waiting, is-usable}
 
 -- a section's books
 pub record Books : Type 0 where

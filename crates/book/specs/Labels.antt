@@ -7,14 +7,10 @@ use lib.IntN.{ℤ, pos, _+ℤ_}
 use lib.ListN.{length, getD, set}
 use Rattle.std.specs.declared.option.Option.{Option}
 use Rattle.std.specs.declared.option.Option.the-variants.{Some, None}
-
--- what a field is aimed at: a label, or a symbol with an offset
-pub use Rattle.book.specs.declared.target.Target.{Target}
-pub use Rattle.book.specs.declared.target.Target.the-variants.{Label as to-label, Symbol as to-symbol}
-
--- what became of a label that was reserved
-pub use Rattle.book.specs.declared.target.Slot.{Slot}
-pub use Rattle.book.specs.declared.target.Slot.the-variants.{Waiting as waiting, Bound as bound, GivenUp as given-up}
+use Rattle.book.specs.declared.target.Target.{Target}
+use Rattle.book.specs.declared.target.Target.the-variants.{Label as to-label, Symbol as to-symbol}
+use Rattle.book.specs.declared.target.Slot.{Slot}
+use Rattle.book.specs.declared.target.Slot.the-variants.{Waiting as waiting, Bound as bound, GivenUp as given-up}
 
 -- labels are numbered as they were reserved; one that was not is as good as given up
 abbrev pub slot-of : List Slot → ℕ → Slot

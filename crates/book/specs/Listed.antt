@@ -3,8 +3,8 @@ use mathlib.Core.List.{List}
 use Rattle.std.specs.Of.Vec.{vec-items}
 use Rattle.book.specs.declared.label_book.LabelBook.{LabelBook}
 use Rattle.book.specs.declared.use_book.UseBook.{UseBook}
-use Rattle.book.specs.Labels.{Slot}
-use Rattle.book.specs.Books.{Use}
+use Rattle.book.specs.declared.target.Slot.{Slot}
+use Rattle.book.specs.declared.target.Use.{Use}
 
 abbrev pub labels-in : LabelBook → List Slot
 labels-in b = vec-items (b .slots)

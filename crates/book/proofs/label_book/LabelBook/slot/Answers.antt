@@ -4,7 +4,7 @@ use lib.ListN.{length}
 use borrow.Author.Needs.{needs}
 use Rattle.std.specs.Of.Vec.{vec-items}
 use Rattle.std.proofs.shelf.Lists.{getD-past}
-use Rattle.book.specs.Labels.{given-up}
+use Rattle.book.specs.declared.target.Slot.the-variants.{GivenUp as given-up}
 use Rattle.book.proofs.label_book.LabelBook.slot.Needs as need
 
 pub returns-then-label-len : need.returns-then-label-len
