@@ -1,0 +1,118 @@
+-- What it means that a distance is accepted, and the family that overwrites its fields: it is lawful, whatever its table.
+use Prim.Native.Nat.{ℕ, zero, suc, _+_, _-_, _*_, _%_, _^_, _<_, _≤_}
+use mathlib.Core.Path.{_≡_, refl, sym, ap, _∙_, subst}
+use mathlib.Core.Bool.{Bool, true, false, cond, not, _||_}
+use mathlib.Core.List.{List, [], _∷_, _++_, append-assoc}
+use native.Mathlib.Omega.{arith}
+use lib.Dec.{ltb}
+use lib.IntN.{ℤ, pos, negsuc, _*ℤ_}
+use lib.ListN.{length, take, drop, length-append, length-drop}
+use lib.Seq.{take-at, drop-at, length-take-le}
+use lib.Signed.{mag, ltZ, shrZ}
+use Rattle.std.specs.shelf.Lists.{All}
+use Rattle.std.proofs.shelf.Elements.{all-append, all-take, all-drop}
+use Rattle.std.proofs.shelf.Tests.{both-ways, or-parts, not-false, ltb-false}
+use Rattle.std.specs.declared.option.Option.{Option}
+use Rattle.std.specs.declared.option.Option.the-variants.{Some, None}
+use Rattle.refusal.specs.Numbers.{signed, wrap, big-endian, bytes-of-number}
+use Rattle.field.specs.declared.verdict.FieldRefusal.{FieldRefusal}
+use Rattle.field.specs.declared.verdict.FieldRefusal.the-variants.{Kind, Far, Odd}
+use Rattle.field.specs.Family.{_when_, first-refused, FieldInfo, family, field-bytes, multiple, refuses-by, Shape, Patches, Lawful, overwritten}
+use Rattle.field.proofs.Numbers.{held-back}
+
+pub never-none : {X P : Type 0} (x : X) → _≡_ {A = Option X} (Some x) None → P
+never-none x h = let z : _≡_ {A = ℕ} 0 1 = cc in absurd (omega arith)
+
+pub same-some : {X : Type 0} {x y : X} → _≡_ {A = Option X} (Some x) (Some y) → x ≡ y
+same-some h = cc
+
+-- a list of tests that refuses nothing
+pub none-refused : (ts : List (FieldRefusal × Bool)) → first-refused ts ≡ None → All (λ t. t .1 ≡ false) ts
+none-refused [] e = tt
+none-refused (t ∷ ts) e = go (t .1) refl e (none-refused ts)
+  where
+    go : (b : Bool) → t .1 ≡ b → cond b (Some (t .0)) (first-refused ts) ≡ None → (first-refused ts ≡ None → All (λ t. t .1 ≡ false) ts) → (t .1 ≡ false) × All (λ t. t .1 ≡ false) ts
+    go true p e h = never-none (t .0) e
+    go false p e h = (p, h e)
+
+-- what an accepted distance is
+pub record Accepted (a : ℕ) (i : FieldInfo) (n : ℕ) (d : ℤ) : Type 0 where
+  pub enough : i .size ≤ n
+  pub not-below : ltZ d (i .least) ≡ false
+  pub not-above : ltZ (i .greatest) d ≡ false
+  pub even : multiple a d ≡ true
+
+pub accepted : (a : ℕ) (i : FieldInfo) (n : ℕ) (d : ℤ) → refuses-by a (Some i) n d ≡ None → Accepted a i n d
+accepted a i n d h =
+    let t = none-refused (Kind when ltb n (i .size) ∷ Far when (ltZ d (i .least) || ltZ (i .greatest) d) ∷ Odd when not (multiple a d) ∷ []) h in
+    let r = or-parts (ltZ d (i .least)) (ltZ (i .greatest) d) (t .1 .0) in
+    record { enough = ltb-false n (i .size) (t .0); not-below = r .0; not-above = r .1; even = not-false (multiple a d) (t .1 .1 .0) }
+
+-- between two numbers that are near zero
+pub near : (least greatest d : ℤ) (h : ℕ) → mag least < h → mag greatest < h → ltZ d least ≡ false → ltZ greatest d ≡ false → mag d < h
+near least (pos g) (pos n) h p q l u = let e = ltb-false g n u in omega arith
+near (negsuc k) greatest (negsuc n) h p q l u = let e = ltb-false k n l in omega arith
+near least (negsuc g) (pos n) h p q l u = absurd (both-ways true u refl)
+near (pos k) greatest (negsuc n) h p q l u = absurd (both-ways true l refl)
+
+number-length : (n v : ℕ) → length (bytes-of-number n v) ≡ n
+number-length zero v = refl
+number-length (suc n) v = ap suc (number-length n v)
+
+number-bytes : (n v : ℕ) → All (λ b. b < 256) (bytes-of-number n v)
+number-bytes zero v = tt
+number-bytes (suc n) v = (omega arith, number-bytes n v)
+
+-- a kind whose field is wide enough for its range
+pub record Fits (a : ℕ) (i : FieldInfo) : Type 0 where
+  pub shape : Shape i
+  pub some : i .first < i .past
+  pub low : mag (i .least) < 2 ^ (8 * (i .past - i .first) - 1) * a
+  pub high : mag (i .greatest) < 2 ^ (8 * (i .past - i .first) - 1) * a
+
+pub overwrites : (a : ℕ) (i : FieldInfo) (d : ℤ) (bytes : List ℕ) → 1 ≤ a → Fits a i → All (λ b. b < 256) bytes → Accepted a i (length bytes) d → Patches a i d bytes (overwritten a (Some i) bytes d)
+overwrites a i d bytes one fit k ok =
+    record {
+      same-length = let x = front-length in let y = num-length in simp (length-append, length-drop) (omega arith);
+      before = ap (take (i .first)) whole ∙ take-at (take (i .first) bytes) (num ++ drop (i .past) bytes) (i .first) front-length;
+      after = drop-at (take (i .first) bytes ++ num) (drop (i .past) bytes) (i .past) (length-append (take (i .first) bytes) num ∙ let x = front-length in let y = num-length in omega arith);
+      bytes = all-append (λ b. b < 256) (take (i .first) bytes ++ num) (drop (i .past) bytes) (all-append (λ b. b < 256) (take (i .first) bytes) num (all-take (λ b. b < 256) (i .first) bytes k) (number-bytes (i .past - i .first) v)) (all-drop (λ b. b < 256) (i .past) bytes k);
+      holds = λ z. ap (λ (x : List ℕ). pos a *ℤ signed (8 * (i .past - i .first)) (big-endian 0 x)) field ∙ held-back a (i .past - i .first) d one (let s = fit .some in omega arith) small (ok .even);
+    }
+  where
+    v : ℕ
+    v = wrap (8 * (i .past - i .first)) (shrZ d a)
+
+    num : List ℕ
+    num = bytes-of-number (i .past - i .first) v
+
+    small : mag d < 2 ^ (8 * (i .past - i .first) - 1) * a
+    small = near (i .least) (i .greatest) d (2 ^ (8 * (i .past - i .first) - 1) * a) (fit .low) (fit .high) (ok .not-below) (ok .not-above)
+
+    ordered : (i .first < i .past) × (i .past ≤ length bytes)
+    ordered = (fit .some, (let x = fit .shape .inside in let y = ok .enough in omega arith))
+
+    front-length : length (take (i .first) bytes) ≡ i .first
+    front-length = length-take-le (i .first) bytes (let a = ordered .0 in let b = ordered .1 in omega arith)
+
+    num-length : length num ≡ i .past - i .first
+    num-length = number-length (i .past - i .first) v
+
+    whole : overwritten a (Some i) bytes d ≡ take (i .first) bytes ++ (num ++ drop (i .past) bytes)
+    whole = append-assoc (take (i .first) bytes) num (drop (i .past) bytes)
+
+    field : field-bytes i (overwritten a (Some i) bytes d) ≡ num
+    field =
+        ap (λ (x : List ℕ). take (i .past - i .first) (drop (i .first) x)) whole
+        ∙ ap (take (i .past - i .first)) (drop-at (take (i .first) bytes) (num ++ drop (i .past) bytes) (i .first) front-length)
+        ∙ take-at num (drop (i .past) bytes) (i .past - i .first) num-length
+
+-- A family that overwrites its fields.
+pub overwriting : (a : ℕ) (table : ℕ → Option FieldInfo) → 1 ≤ a → ((k : ℕ) (i : FieldInfo) → table k ≡ Some i → Fits a i) → Lawful (family (record { align = a; table = table }) (λ k. overwritten a (table k)))
+overwriting a table one fits =
+    record {
+      reads = record { aligned = one; shaped = λ k i e. fits k i e .shape };
+      patches = λ k i bytes d bs e ok.
+          subst (λ (o : Option FieldInfo). Patches a i d bytes (overwritten a o bytes d)) (sym e)
+          (overwrites a i d bytes one (fits k i e) bs (accepted a i (length bytes) d (subst (λ (o : Option FieldInfo). refuses-by a o (length bytes) d ≡ None) e ok)));
+    }
