@@ -1,2 +1,4 @@
 pub mod Tests
 pub mod Digits
+pub mod Encoded
+pub mod Given

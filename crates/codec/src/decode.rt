@@ -24,7 +24,11 @@ fn nibble(bytes: &[u8], i: usize) -> u8
     ensures is { λ r. ⌜ r ≡ getD (nibbles (now (bytes .entry))) i 0 ⌝ }
     ensures small { λ r. ⌜ r < 16 ⌝ }
 {
-    if i % 2 == 0 { bytes[i / 2] / 16 } else { bytes[i / 2] % 16 }
+    if i % 2 == 0 {
+        bytes[i / 2] / 16
+    } else {
+        bytes[i / 2] % 16
+    }
 }
 
 fn scaled(x: u8, k: usize) -> u64
@@ -77,7 +81,11 @@ fn operand_sum(i: usize, row: &[Digit], bytes: &[u8]) -> u64
 fn digit_at(row: &[Digit], place: usize) -> Digit
     ensures { λ r. ⌜ digit-of r ≡ getD (map digit-of (now (row .entry))) place unused ⌝ }
 {
-    if place < row.len() { row[place] } else { Digit::Unused }
+    if place < row.len() {
+        row[place]
+    } else {
+        Digit::Unused
+    }
 }
 
 /// A bit of RXB, where the digit is the low one of the vector register i.
@@ -202,7 +210,11 @@ fn operand(form: Form, bytes: &[u8], i: usize) -> i64
     ensures { λ r. ⌜ r ≡ operand-at (kinds-of form) (row-of form) (nibbles (now (bytes .entry))) i ⌝ }
 {
     let kinds = form.kinds();
-    if i < kinds.len() { number(kinds[i], field_of(i, row(form), bytes)) } else { 0 }
+    if i < kinds.len() {
+        number(kinds[i], field_of(i, row(form), bytes))
+    } else {
+        0
+    }
 }
 
 /// The six operands, the unused ones 0.
@@ -275,7 +287,11 @@ fn is_clean(form: Form, bytes: &[u8]) -> bool
 pub fn opcode_in(form: Form, bytes: &[u8]) -> Option<u16>
     ensures { λ r. ⌜ r ≡ cond (eqb (length (now (bytes .entry))) (size-of form)) (Some (opcode-at form (now (bytes .entry)))) None ⌝ }
 {
-    if bytes.len() == form.size() { Some(opcode_of(form, bytes)) } else { None }
+    if bytes.len() == form.size() {
+        Some(opcode_of(form, bytes))
+    } else {
+        None
+    }
 }
 
 /// The six operands in these bytes, the unused ones 0; none where the bytes are not as many as the form has, or an unused digit or an

@@ -31,7 +31,11 @@ fn is_taken(form: Form, i: usize, z: i64) -> bool
     ensures { λ r. ⌜ r ≡ taken-at (kinds-of form) i z ⌝ }
 {
     let kinds = form.kinds();
-    if i < kinds.len() { is_in(kinds[i], z) } else { z == 0 }
+    if i < kinds.len() {
+        is_in(kinds[i], z)
+    } else {
+        z == 0
+    }
 }
 
 /// Whether the operands are of the form's kinds, the unused ones 0.

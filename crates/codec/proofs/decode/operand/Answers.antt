@@ -33,6 +33,6 @@ joined ks hs ds xs i n z e lt f h =
 pub returns-then-i-kinds : need.returns-then-i-kinds
 returns-then-i-kinds c =
     let e : c .number .result ≡ operand-at (form.kinds (c .args .form)) (form.row (c .args .form)) (nibbles (c .args .bytes .now)) (c .args .i) =
-      joined (form.kinds (c .args .form)) (c .kinds-kinds .result .now) (form.row (c .args .form)) (nibbles (c .args .bytes .now)) (c .args .i) (c .field-of .result) (c .number .result)
-        (c .kinds-kinds .ensures) (c .if-i-kinds .taken) (c .field-of .ensures .is ∙ ap (λ (ds : List form.Digit). field-of (c .args .i) ds (nibbles (c .args .bytes .now))) (c .row .ensures .is)) (c .number .ensures) in
+    joined (form.kinds (c .args .form)) (c .kinds-kinds .result .now) (form.row (c .args .form)) (nibbles (c .args .bytes .now)) (c .args .i) (c .field-of .result) (c .number .result)
+    (c .kinds-kinds .ensures) (c .if-i-kinds .taken) (c .field-of .ensures .is ∙ ap (λ (ds : List form.Digit). field-of (c .args .i) ds (nibbles (c .args .bytes .now))) (c .row .ensures .is)) (c .number .ensures) in
     toZ-ofZ w64 (c .number .result) (record { sfits = c .number .ok }) ∙ e

@@ -19,9 +19,10 @@ loop-k-again c =
     let lt : c .loop-k .k < length (c .args .row .now) = omega arith in
     let s = sum-more (operand-part (c .args .i)) (c .args .row .now) (nibbles (c .args .bytes .now)) (c .loop-k .k) (Op 0) lt in
     let u = c .weigh-total .ensures .is ∙ ap (operand-part (c .args .i) (digit-of (getD (c .args .row .now) (c .loop-k .k) (Op 0)))) (c .nibble .ensures .is) in
-    let v = c .loop-k .inv .0 in
-    ( omega (arith, s, u, v)
-    , omega (arith, c .loop-k .inv .1, c .weigh-total .ensures .small) )
+    let v = c .loop-k .inv .0 in (
+      omega (arith, s, u, v),
+      omega (arith, c .loop-k .inv .1, c .weigh-total .ensures .small),
+    )
 
 pub returns : need.returns
 returns c =
