@@ -16,7 +16,7 @@ use Rattle.form.proofs.Every.{at-each}
 use Rattle.codec.specs.declared.row.Digit.{Digit}
 use Rattle.codec.specs.declared.row.Digit.the-variants.{Unused}
 use Rattle.codec.specs.Digits.{digit-of, low}
-use Rattle.codec.specs.Tests.{all}
+use Rattle.refusal.specs.Tests.{all}
 use Rattle.form.specs.declared.Form.{Form}
 use Rattle.form.specs.declared.Form.the-variants.{E, RiA, RiB, RiC, RieA, RieD, RieF, RieG, RilA, RilB, RilC, Rr, Rrd, Rre, RrfAb, RrfCde, Rs, Rsy, Rx, Rxy, Si, Sil, Siy, VriA, VriB, VriC, VriK, VrrA, VrrB, VrrC, VrrD, VrrE, VrrF, VrsA, VrsB, VrsC, Vrx}
 use Rattle.form.specs.declared.OperandKind.{OperandKind}

@@ -11,7 +11,7 @@ ghost use Rattle.form.specs.Form.{row as row-of, unused, size as size-of, kinds
 ghost use Rattle.form.specs.Encode.{nibbles, operand-part, gather, bit-part, bit-of, field-of as field-at, width, operands-of as operands-at, is-vec, rxb-clean, digit-clean, clean, all-clean, opcode-of as opcode-at};
 ghost use Rattle.refusal.specs.Numbers.{from-bits};
 ghost use Rattle.codec.specs.Digits.{digit-of, low, operand-at, twos-by};
-ghost use Rattle.codec.specs.Tests.{all};
+ghost use Rattle.refusal.specs.Tests.{all};
 use crate::row::Digit;
 use crate::row::row;
 use form::Form;

@@ -3,7 +3,7 @@ ghost use mathlib.Core.Bool.{true};
 ghost use mathlib.Core.List.{map};
 ghost use Rattle.form.specs.Form.{row as row-of};
 ghost use Rattle.codec.specs.Digits.{digit-of, low};
-ghost use Rattle.codec.specs.Tests.{all};
+ghost use Rattle.refusal.specs.Tests.{all};
 use form::Form;
 
 /// What stands at one place of a row.

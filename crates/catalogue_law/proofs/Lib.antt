@@ -1,0 +1,4 @@
+pub mod Basics
+pub mod Encoding
+pub mod Sound
+pub mod Reading
