@@ -70,7 +70,7 @@ same-numbers-is (a ∷ us) (b ∷ bs) e =
     cc
 
 -- with the same first byte, two entries have their opcodes in the same digits, and two opcodes
-abbrev Apart : Entry → Entry → Type 0
+abbrev pub Apart : Entry → Entry → Type 0
 Apart e d = first-byte (e .form) (e .opcode) ≡ first-byte (d .form) (d .opcode) → (opcode-digits (e .form) ≡ opcode-digits (d .form)) × (e .opcode ≡ d .opcode → ⊥)
 
 apart-back : (e d : Entry) → Apart e d → Apart d e
