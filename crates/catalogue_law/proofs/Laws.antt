@@ -94,9 +94,10 @@ found q (x ∷ es) e h = step (q x) refl h (found q es e)
         → (find q es ≡ Some e → (q e ≡ true) × (catalogued es (e .form) (e .opcode) ≡ true))
         → (q e ≡ true) × (catalogued (x ∷ es) (e .form) (e .opcode) ≡ true)
     step true u k g =
-        let xe : x ≡ e = cc in
-        (ap q (sym xe) ∙ u,
-        ap (λ (y : Entry). is-entry (y .form) (y .opcode) x || catalogued es (y .form) (y .opcode)) (sym xe) ∙ ap (λ (b : Bool). b || catalogued es (x .form) (x .opcode)) same)
+        let xe : x ≡ e = cc in (
+          ap q (sym xe) ∙ u,
+          ap (λ (y : Entry). is-entry (y .form) (y .opcode) x || catalogued es (y .form) (y .opcode)) (sym xe) ∙ ap (λ (b : Bool). b || catalogued es (x .form) (x .opcode)) same,
+        )
     step false u k g = let r = g k in (r .0, ap (λ (b : Bool). is-entry (e .form) (e .opcode) x || b) (r .1) ∙ or-true (is-entry (e .form) (e .opcode) x))
 
 pub read-is-written-again : Read-is-written-again
@@ -117,7 +118,8 @@ read-is-written-again es at (b ∷ bs) p small h =
     let long = ltb-false (length (b ∷ bs)) (length-by-first-byte b) (u .0) in
     let ln : length l ≡ length-by-first-byte b = length-take-le (length-by-first-byte b) (b ∷ bs) long in
     let P : Placed → Type 0 = λ y. (y .place ≡ at) × Catalogued es (y .instr) × (bytes-of (y .instr) ≡ take (size (y .instr .form)) (b ∷ bs)) in
-    subst P (v .1 .2)
-    (refl,
-    record { entry = true-T (w .1); six-operands = i .2; in-kind = true-T (i .1) },
-    ap (λ (y : ℕ). bytes-of (record { form = e .form; opcode = y; operands = operands-of (e .form) l })) (sym o) ∙ i .0 ∙ ap (λ (k : ℕ). take k (b ∷ bs)) (sym (n ∙ ln)))
+    subst P (v .1 .2) (
+      refl,
+      record { entry = true-T (w .1); six-operands = i .2; in-kind = true-T (i .1) },
+      ap (λ (y : ℕ). bytes-of (record { form = e .form; opcode = y; operands = operands-of (e .form) l })) (sym o) ∙ i .0 ∙ ap (λ (k : ℕ). take k (b ∷ bs)) (sym (n ∙ ln)),
+    )

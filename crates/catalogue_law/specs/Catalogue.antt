@@ -4,13 +4,14 @@ use mathlib.Core.Path.{_≡_}
 use mathlib.Core.Bool.{Bool, true, false, cond, not, _&&_, _||_}
 use mathlib.Core.List.{List, [], _∷_, _++_}
 use lib.Dec.{T, leb, ltb, eqb}
+use lib.IntN.{ℤ}
 use lib.ListN.{length, take, drop}
 use Rattle.std.specs.declared.option.Option.{Option}
 use Rattle.std.specs.declared.option.Option.the-variants.{Some, None}
 use Rattle.std.specs.declared.result.Result.{Result}
 use Rattle.std.specs.declared.result.Result.the-variants.{Ok, Err}
 use Rattle.refusal.specs.declared.Reason.{Reason}
-use Rattle.refusal.specs.declared.Reason.the-variants.{Misfit, Clash, Full, Cut, Unknown, Unused}
+use Rattle.refusal.specs.declared.Reason.the-variants.{Misfit, Clash, Opcode, Operand, Full, Cut, Unknown, Unused}
 use Rattle.refusal.specs.declared.Refusal.{Refusal}
 use Rattle.form.specs.declared.Form.{Form}
 use Rattle.form.specs.declared.Form.the-variants.{RilA, RilB, Rx, Rxy}
@@ -19,7 +20,7 @@ use Rattle.form.specs.Form.{kinds, size, same-form, opcode-digits}
 use Rattle.form.specs.Encode.{opcode-of, operands-of, clean, takes}
 use Rattle.form.specs.declared.instr.Instr.{Instr}
 use Rattle.form.specs.declared.instr.Placed.{Placed}
-use Rattle.refusal.specs.Refusals.{_when_, first-refusal, refused-at}
+use Rattle.refusal.specs.Refusals.{Checks, _when_, first-refusal, refused-at}
 use Rattle.refusal.specs.Tests.{any, all}
 
 -- Opcodes.
@@ -99,6 +100,14 @@ sound es = begins initial es && leb (length es) most-entries && all fits es && a
 
 abbrev pub Soundness-is-kept : Type 0
 Soundness-is-kept = (sound initial ≡ true) × ((es : List Entry) (f : Form) (o : ℕ) → sound es ≡ true → admit-refusal es f o ≡ None → sound (admitted es f o) ≡ true)
+
+-- Writing an instruction: its form, opcode and six operands.
+abbrev pub put-checks : List Entry → Form → ℕ → List ℤ → Checks
+put-checks es f o zs =
+    Misfit when misfit f o
+    ∷ Opcode when not (catalogued es f o)
+    ∷ Operand when not (takes (kinds f) zs)
+    ∷ []
 
 -- Catalogued instructions.
 

@@ -6,8 +6,7 @@ ghost use Rattle.catalogue_law.specs.Laws.{One-entry, Written-is-read-back, Re
 /// A new catalogue is sound, and admitting an opcode keeps it so.
 pub fn soundness_is_kept()
     ensures { λ _. ⌜ Soundness-is-kept ⌝ }
-{
-}
+{}
 
 /// Under a sound catalogue an instruction's bytes belong to at most one entry; what is written is read back, also after further opcodes
 /// were admitted; and what is read is a catalogued instruction with those very bytes.
@@ -15,5 +14,4 @@ pub fn reading_inverts_writing()
     ensures one { λ _. ⌜ One-entry ⌝ }
     ensures back { λ _. ⌜ Written-is-read-back ⌝ }
     ensures again { λ _. ⌜ Read-is-written-again ⌝ }
-{
-}
+{}

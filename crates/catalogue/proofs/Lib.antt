@@ -1,0 +1,4 @@
+pub mod Opcodes
+pub mod Along
+pub mod Written
+pub mod Read
