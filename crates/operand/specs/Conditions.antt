@@ -118,19 +118,6 @@ unsigned-of UnsignedGreaterThanOrEqual = UnsignedGreaterThanOrEqual
 unsigned-of UnsignedGreaterThan = UnsignedGreaterThan
 unsigned-of UnsignedLessThanOrEqual = UnsignedLessThanOrEqual
 
--- the one condition that asks for equality
-abbrev pub is-equal : IntCC → Bool
-is-equal Equal = true
-is-equal NotEqual = false
-is-equal SignedLessThan = false
-is-equal SignedGreaterThanOrEqual = false
-is-equal SignedGreaterThan = false
-is-equal SignedLessThanOrEqual = false
-is-equal UnsignedLessThan = false
-is-equal UnsignedGreaterThanOrEqual = false
-is-equal UnsignedGreaterThan = false
-is-equal UnsignedLessThanOrEqual = false
-
 -- every condition, in the order of their declaration
 abbrev pub conditions : List IntCC
 conditions =
@@ -153,7 +140,7 @@ place-of UnsignedLessThanOrEqual = 9
 abbrev pub Complete : List IntCC → Type 0
 Complete xs = (length xs ≡ 10) × ((c : IntCC) → getD xs (place-of c) Equal ≡ c)
 
--- names
+-- the name of a condition
 abbrev pub name-of : IntCC → List ℕ
 name-of Equal = codes "eq"
 name-of NotEqual = codes "ne"

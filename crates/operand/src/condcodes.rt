@@ -1,10 +1,10 @@
 ghost use mathlib.Core.Path.{_≡_};
-ghost use mathlib.Core.Bool.{Bool, false, not, _&&_};
+ghost use mathlib.Core.Bool.{Bool, not, _&&_};
 ghost use Prim.Native.Nat.{ℕ, _<_, _^_};
 ghost use lib.Dec.{eqb};
 ghost use lib.IntN.{pos};
 ghost use Rattle.std.specs.declared.option.Option.the-variants.{Some};
-ghost use Rattle.operand.specs.Conditions.{holds, relation, order, complement-of, swapped-of, without-equal-of, unsigned-of, is-equal, conditions, Complete, name-of, Named};
+ghost use Rattle.operand.specs.Conditions.{holds, relation, order, complement-of, swapped-of, without-equal-of, unsigned-of, conditions, Complete, name-of, Named};
 use std::fmt;
 use std::str::FromStr;
 
@@ -116,7 +116,7 @@ impl IntCC {
     /// The condition with the equal component removed. For conditions that are no orderings this changes nothing.
     pub fn without_equal(self) -> Self
         ensures is { λ r. ⌜ r ≡ without-equal-of self ⌝ }
-        ensures strict { λ r. ⌜ ((w a b : ℕ) → is-equal self ≡ false → a < 2 ^ w → b < 2 ^ w → holds w r a b ≡ (holds w self a b && not (eqb a b))) ⌝ }
+        ensures strict { λ r. ⌜ ((w a b : ℕ) → (self ≡ IntCC.Equal → ⊥) → a < 2 ^ w → b < 2 ^ w → holds w r a b ≡ (holds w self a b && not (eqb a b))) ⌝ }
     {
         match self {
             IntCC::SignedGreaterThan | IntCC::SignedGreaterThanOrEqual => IntCC::SignedGreaterThan,

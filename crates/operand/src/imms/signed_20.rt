@@ -39,7 +39,7 @@ impl SImm20 {
         encoded & 0xfffff
     }
 
-    /// The value as a number.
+    /// The value as a number. An addition to Cranelift's calls.
     pub fn value(&self) -> i32
         ensures { λ r. ⌜ r ≡ now (self .entry) .value ⌝ }
     {

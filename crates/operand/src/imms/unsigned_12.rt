@@ -23,7 +23,7 @@ impl UImm12 {
         }
     }
 
-    /// The same of a signed value.
+    /// The same of a signed value. An addition to Cranelift's calls.
     pub fn maybe_from_i64(value: i64) -> Option<UImm12>
         ensures { λ r. ⌜ mapped number-12 r ≡ if-within (plain 12) value ⌝ }
     {
@@ -59,7 +59,7 @@ impl UImm12 {
         u32::from(self.value)
     }
 
-    /// The value as a number.
+    /// The value as a number. An addition to Cranelift's calls.
     pub fn value(&self) -> u16
         ensures { λ r. ⌜ r ≡ now (self .entry) .value ⌝ }
     {
