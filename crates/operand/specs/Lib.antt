@@ -1,4 +1,2 @@
-pub mod Conditions
 pub mod Imms
-pub mod Masks
 pub mod Registers

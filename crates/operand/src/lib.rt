@@ -1,7 +1,5 @@
-//! What instructions are given: registers, immediates, conditions.
+//! What instructions are given: registers and immediates.
 
-pub mod cond;
-pub mod condcodes;
 pub mod imms;
 pub mod reg;
 #[cfg(test)]

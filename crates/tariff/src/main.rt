@@ -1,12 +1,12 @@
 //! Encodes a short price routine and prints each instruction: a parcel's weight in grams comes in register 3, and its price in cents goes
 //! out in register 2, 350 up to 500 grams, 590 up to 2000 grams, −1 above.
 
+use condition::cond::Cond;
+use condition::condcodes::IntCC;
 use enc_imm::enc_ri_a;
 use enc_imm::enc_ri_c;
 use enc_imm::enc_ril_a;
 use enc_mem::enc_rr;
-use operand::cond::Cond;
-use operand::condcodes::IntCC;
 use operand::reg::Reg;
 use operand::reg::RegClass;
 use std::io;

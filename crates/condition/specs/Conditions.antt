@@ -13,8 +13,8 @@ use Rattle.std.specs.declared.cmp.Ordering.{Ordering}
 use Rattle.std.specs.declared.cmp.Ordering.the-variants as ordering
 use Rattle.std.specs.declared.result.Result.{Result}
 use Rattle.refusal.specs.Numbers.{signed}
-use Rattle.operand.specs.declared.condcodes.IntCC.{IntCC}
-use Rattle.operand.specs.declared.condcodes.IntCC.the-variants.{Equal, NotEqual, SignedLessThan, SignedGreaterThanOrEqual, SignedGreaterThan, SignedLessThanOrEqual, UnsignedLessThan, UnsignedGreaterThanOrEqual, UnsignedGreaterThan, UnsignedLessThanOrEqual}
+use Rattle.condition.specs.declared.condcodes.IntCC.{IntCC}
+use Rattle.condition.specs.declared.condcodes.IntCC.the-variants.{Equal, NotEqual, SignedLessThan, SignedGreaterThanOrEqual, SignedGreaterThan, SignedLessThanOrEqual, UnsignedLessThan, UnsignedGreaterThanOrEqual, UnsignedGreaterThan, UnsignedLessThanOrEqual}
 
 -- how two numbers stand to each other
 abbrev pub order : ℤ → ℤ → Ordering

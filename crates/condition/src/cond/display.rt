@@ -1,5 +1,5 @@
 ghost use Rattle.std.specs.declared.option.Option.the-variants.{Some};
-ghost use Rattle.operand.specs.Masks.{suffix-of};
+ghost use Rattle.condition.specs.Masks.{suffix-of};
 use crate::cond::Cond;
 use std::fmt;
 

@@ -5,8 +5,8 @@ use native.Mathlib.Omega.{arith}
 use lib.Bits.{bitAnd}
 use Rattle.std.proofs.shelf.Bits.{and-mask}
 use Rattle.std.proofs.shelf.Ways.{tells}
-use Rattle.operand.specs.Masks.{selects}
-use Rattle.operand.proofs.cond.Cond.invert.Needs as need
+use Rattle.condition.specs.Masks.{selects}
+use Rattle.condition.proofs.cond.Cond.invert.Needs as need
 
 -- the other mask selects the other codes
 others : (m code : ℕ) → m < 16 → code < 4 → selects (15 - m) code ≡ not (selects m code)

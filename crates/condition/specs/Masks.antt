@@ -14,9 +14,9 @@ use Rattle.refusal.specs.Refusals.{_when_, first-refusal}
 use Rattle.refusal.specs.declared.Reason.{Reason}
 use Rattle.refusal.specs.declared.Reason.the-variants.{Operand}
 use Rattle.refusal.specs.declared.Refusal.{Refusal}
-use Rattle.operand.specs.declared.cond.Cond.{Cond}
-use Rattle.operand.specs.declared.condcodes.IntCC.{IntCC}
-use Rattle.operand.specs.Conditions.{Reading, read-as, order, relation}
+use Rattle.condition.specs.declared.cond.Cond.{Cond}
+use Rattle.condition.specs.declared.condcodes.IntCC.{IntCC}
+use Rattle.condition.specs.Conditions.{Reading, read-as, order, relation}
 
 -- bits 8, 4, 2 and 1 of a mask select condition codes 0, 1, 2 and 3
 abbrev pub selects : ℕ → ℕ → Bool

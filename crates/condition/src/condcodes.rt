@@ -4,7 +4,7 @@ ghost use Prim.Native.Nat.{ℕ, _<_, _^_};
 ghost use lib.Dec.{eqb};
 ghost use lib.IntN.{pos};
 ghost use Rattle.std.specs.declared.option.Option.the-variants.{Some};
-ghost use Rattle.operand.specs.Conditions.{holds, relation, order, complement-of, swapped-of, without-equal-of, unsigned-of, conditions, Complete, name-of, Named};
+ghost use Rattle.condition.specs.Conditions.{holds, relation, order, complement-of, swapped-of, without-equal-of, unsigned-of, conditions, Complete, name-of, Named};
 use std::fmt;
 use std::str::FromStr;
 
