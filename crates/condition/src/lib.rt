@@ -2,6 +2,5 @@
 
 pub mod cond;
 pub mod condcodes;
-
 #[cfg(test)]
 mod tests;
