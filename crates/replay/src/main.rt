@@ -1,0 +1,78 @@
+//! Answers commands from the standard input, one a line, with one line each on the standard output, so that any list of commands can be
+//! compared with the answers of another implementation of the same calls.
+//!
+//! A line is a command and its arguments, separated by blanks; `#` begins a comment, and a line without words has no answer. An answer is a
+//! value, `none`, `refused` and the number of the refusal, or `error` and what is wrong with the line.
+
+use answer::Answer;
+use answer::AnswerDisplay;
+use fault::Fault;
+use fault::Found;
+use fault::FoundDisplay;
+use std::io;
+use std::io::BufRead;
+use std::io::BufReader;
+use words::Args;
+
+mod addresses;
+mod answer;
+mod conditions;
+mod encoders;
+mod fault;
+mod immediates;
+mod registers;
+mod words;
+
+/// What a command answers, or what is wrong with its line.
+type Answered = Result<Answer, Fault>;
+
+/// Hands a command to the group that its name belongs to.
+fn dispatch(name: &str, args: &mut Args) -> Answered {
+    let (group, _) = name.split_once('_').unwrap_or((name, ""));
+    match group {
+        "enc" => encoders::answer(name, args),
+        "rxb" | "machreg" => registers::answer(name, args),
+        "uimm12" | "simm20" => immediates::displacement(name, args),
+        "u16s" | "u32s" => immediates::shifted(name, args),
+        "cond" => conditions::mask(name, args),
+        "intcc" => conditions::comparison(name, args),
+        "state" | "mem" | "memarg" => addresses::answer(name, args),
+        _ => Err(Fault::UnknownCommand),
+    }
+}
+
+/// The answer to a command that has no words too many.
+fn answer_whole(name: &str, args: &mut Args) -> Answered {
+    let answer = dispatch(name, args)?;
+    args.end()?;
+    Ok(answer)
+}
+
+/// Answers a line, if it has words.
+fn respond(rt: &LibcRuntime, line: &str) -> io::Result<()> {
+    let (text, _) = line.split_once('#').unwrap_or((line, ""));
+    let mut args = Args::new(text);
+    let Ok(name) = args.word() else {
+        return Ok(());
+    };
+    match answer_whole(name, &mut args) {
+        Ok(answer) => println!(rt, "{answer}"),
+        Err(fault) => {
+            let found = Found {
+                fault,
+                word: args.last(),
+            };
+            println!(rt, "error {found}")
+        }
+    }
+}
+
+fn main(rt: LibcRuntime) -> io::Result<()> {
+    for line in BufReader::new(rt.stdin()).split(rt.alloc(), b'\n') {
+        match std::str::from_utf8(line?.as_slice()) {
+            Ok(text) => respond(&rt, text)?,
+            Err(_) => println!(rt, "error not text")?,
+        }
+    }
+    Ok(())
+}
