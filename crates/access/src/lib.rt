@@ -1,0 +1,4 @@
+//! Accesses to memory: finalizing an address, the window of a call, and the plan of what an access writes.
+
+pub mod finalize;
+pub mod window;
