@@ -172,7 +172,7 @@ steps-split C mi fr m = refusal-append (mode-checks C (mode C fr m)) (form-check
 pub steps-first : {Y : Type 0} (C : Convention) (mi : MemInstType) (fr : frame.Frame) (m : MemArg) (e : Reason) (y : Y) → Err e ≡ resolve-answer C (mode C fr m) → Err e ≡ answered (steps-refusal C mi fr m) y
 steps-first C mi fr m e y h = rw (steps-split C mi fr m, answered-err (first-refusal (mode-checks C (mode C fr m))) _ e h)
 
-both-some : (u : Option Helpers) (o : Option Address) (x : Helpers × Address) → both (λ hs a. (hs, a)) u o ≡ Some x → (u ≡ Some (x .0)) × (o ≡ Some (x .1))
+pub both-some : (u : Option Helpers) (o : Option Address) (x : Helpers × Address) → both (λ hs a. (hs, a)) u o ≡ Some x → (u ≡ Some (x .0)) × (o ≡ Some (x .1))
 both-some None o x e = let z : _≡_ {A = ℕ} 0 1 = cc in absurd (omega arith)
 both-some (Some hs) None x e = let z : _≡_ {A = ℕ} 0 1 = cc in absurd (omega arith)
 both-some (Some hs) (Some a) x e = let p : (hs, a) ≡ x = cc in (ap {B = Option Helpers} (λ q. Some (q .0)) p, ap {B = Option Address} (λ q. Some (q .1)) p)

@@ -1,1 +1,2 @@
 mod Finalizing
+mod Planning

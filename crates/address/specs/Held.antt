@@ -64,6 +64,11 @@ abbrev pub listed : {X : Type 0} → Option X → List X
 listed None = []
 listed (Some x) = x ∷ []
 
+-- those that are there, in order
+abbrev pub all-listed : {X : Type 0} → List (Option X) → List X
+all-listed [] = []
+all-listed (o ∷ os) = listed o ++ all-listed os
+
 -- the instructions of a plan, in order
 abbrev pub items-of : AccessPlan → List Aimed
 items-of p = listed (p .first) ++ listed (p .second) ++ p .access ∷ []

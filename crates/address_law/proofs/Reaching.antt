@@ -332,6 +332,20 @@ module _ (C : Convention) (lc : lawful-convention C ≡ true) where
   pub target-found : (where-is : Target → Option ℤ) (a : Access) (may-trap : Bool) (m : MemArg) (fr : Frame) → All (λ w. AimFound where-is (w .aim)) (plan C a may-trap m fr .items) → AimFound where-is (target-of (mode C fr m))
   target-found where-is a may-trap m fr aims = found where-is a may-trap (mode C fr m) aims
 
+  found-there : (o : Option Target) → AimFound (λ t. Some (pos 0)) o
+  found-there None = tt
+  found-there (Some t) = (pos 0, refl)
+
+  -- the access itself is one instruction
+  pub one-access : (a : Access) (may-trap : Bool) (m : MemArg) (fr : Frame) → is-constant (mode C fr m) ≡ false → lacks-form (permitted a may-trap) (finalize C (permitted a may-trap) fr m .1) ≡ false
+      → (w : Aimed) × (access-instr a (finalize C (permitted a may-trap) fr m .1) ≡ w ∷ [])
+  one-access a may-trap m fr c form =
+      let mi = permitted a may-trap in
+      let r = resolved C (mode C fr m) in
+      let nc = widened-address mi (loaded C mi (r .0) (r .1) .1) (loaded-address mi (r .0) (r .1) (resolved-address (mode C fr m) c)) in
+      let one = single (λ t. Some (pos 0)) a may-trap (finalize C mi fr m .1) (suits mi (finalize C mi fr m .1) nc (finalize-permits C mi fr m form)) (found-there (target-of (real (finalize C mi fr m .1)))) in
+      (one .w, one .only)
+
 pub accesses-reach : Accesses-reach
 accesses-reach C lc a may-trap m fr lost ok =
     let p = plan C a may-trap m fr in
