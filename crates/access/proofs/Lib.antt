@@ -1,2 +1,1 @@
-mod Finalizing
 mod Planning

@@ -28,9 +28,9 @@ use Rattle.address.specs.Held.{held, helper-of, helpers-in, both, answer-in, wh
 use Rattle.address_law.specs.Reaching.{Reaching}
 use Rattle.address_law.proofs.Basics.{none-refused}
 use Rattle.address_law.proofs.Reaching.{accesses-reach, one-access}
-use Rattle.access.specs.Steps.{first-in, steps-refusal, steps-answer}
+use Rattle.finalize.specs.Steps.{first-in, steps-refusal, steps-answer}
 use Rattle.access.specs.Written.{stays-relative, access-at, first-at, helper-at}
-use Rattle.access.proofs.Finalizing.{answered-ok, answered-err, or-else, refusal-append, displaced-widened, both-some}
+use Rattle.finalize.proofs.Finalizing.{answered-ok, answered-err, or-else, refusal-append, displaced-widened, both-some}
 
 -- An address stays relative.
 

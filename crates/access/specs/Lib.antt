@@ -1,4 +1,1 @@
-pub mod Answers
-pub mod Steps
-pub mod Window
 pub mod Written

@@ -1,5 +1,3 @@
-//! Accesses to memory: finalizing an address, the window of a call, and the plan of what an access writes.
+//! Accesses to memory: the plan of what one writes.
 
-pub mod finalize;
 pub mod plan;
-pub mod window;

@@ -14,10 +14,8 @@ ghost use Rattle.address.specs.Address.{is-constant as constant-in};
 ghost use Rattle.address.specs.Access.{permitted, data-fits, odd-symbol, plan as plan-of, planning-refusal};
 ghost use Rattle.address.specs.Held.{held, helper-of, answer-in, when-ok, listed, items-of};
 ghost use Rattle.address_law.specs.Reaching.{Reaching};
-ghost use Rattle.access.specs.Steps.{first-in};
+ghost use Rattle.finalize.specs.Steps.{first-in};
 ghost use Rattle.access.specs.Written.{stays-relative, access-at, helper-at, first-at};
-use crate::finalize::finalize_steps;
-use crate::finalize::registers_fit;
 use address::access::Access;
 use address::access::AccessPlan;
 use address::access::Aimed;
@@ -27,6 +25,7 @@ use address::args::MemArg;
 use address::args::MemInstType;
 use address::frame::Frame;
 use book::target::Target;
+use finalize::finalize::finalize_steps;
 use form::Form;
 use form::instr::Instr;
 use operand::reg::Reg;
@@ -72,7 +71,7 @@ fn fits(access: &Access, may_trap: bool, mem: &MemArg) -> bool
     ensures { λ b. ⌜ ((fr : Frame) → b ≡ plan-of standard (now (access .entry)) «may_trap» (now (mem .entry)) fr .fits) ⌝ }
 {
     let relative = stays_relative(mem, access.permitted(may_trap));
-    registers_fit(mem) && data_fits(access, relative)
+    mem.registers_fit() && data_fits(access, relative)
 }
 
 // Whether it is a symbol with an odd offset.

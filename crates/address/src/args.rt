@@ -2,7 +2,7 @@ ghost use mathlib.Core.Path.{_≡_};
 ghost use lib.IntN.{pos};
 ghost use Rattle.std.specs.declared.option.Option.the-variants.{Some};
 ghost use Rattle.address.specs.Convention.{zero-reg, int-reg, Convention};
-ghost use Rattle.address.specs.Address.{trusted, bxd12, mode, flags-in, target-of};
+ghost use Rattle.address.specs.Address.{trusted, bxd12, mode, flags-in, target-of, registers-fit};
 ghost use Rattle.address.specs.Held.{held};
 ghost use Rattle.address.specs.declared.frame.Frame.{Frame};
 use crate::convention::zero_reg;
@@ -10,6 +10,7 @@ use book::target::Target;
 use operand::imms::SImm20;
 use operand::imms::UImm12;
 use operand::reg::Reg;
+use operand::reg::is_gpr;
 
 /// Whether an address is aligned, and the trap code of an access to it, 0 for none.
 #[derive(Clone, Copy)]
@@ -153,6 +154,18 @@ impl MemArg {
             | MemArg::OutgoingArgOffset { .. }
             | MemArg::SlotOffset { .. }
             | MemArg::SpillOffset { .. } => MachMemFlags::trusted(),
+        }
+    }
+
+    /// Whether its registers are integer registers that exist.
+    pub fn registers_fit(&self) -> bool
+        ensures { λ b. ⌜ b ≡ registers-fit (now (self .entry)) ⌝ }
+    {
+        match *self {
+            MemArg::BXD12 { base, index, .. } => is_gpr(base) && is_gpr(index),
+            MemArg::BXD20 { base, index, .. } => is_gpr(base) && is_gpr(index),
+            MemArg::RegOffset { reg, .. } => is_gpr(reg),
+            _ => true,
         }
     }
 

@@ -4,7 +4,7 @@ use Rattle.std.specs.declared.option.Option.the-variants.{Some, None}
 use Rattle.refusal.specs.Refusals.{when-some}
 use Rattle.address.specs.Address.{Helper}
 use Rattle.address.specs.Held.{helper-of}
-use Rattle.access.specs.Steps.{first-in}
+use Rattle.finalize.specs.Steps.{first-in}
 use Rattle.access.specs.Written.{helper-at, first-at}
 use Rattle.access.proofs.plan.helping_if.Needs as need
 

@@ -1,8 +1,8 @@
 use mathlib.Core.Path.{sym, _∙_}
 use Rattle.address.specs.Convention.{standard}
 use Rattle.address.specs.Address.{mode}
-use Rattle.access.proofs.Finalizing.{resolve-some}
-use Rattle.access.proofs.finalize.resolve.Needs as need
+use Rattle.finalize.proofs.Finalizing.{resolve-some}
+use Rattle.finalize.proofs.finalize.resolve.Needs as need
 
 pub returns-in-Some : need.returns-in-Some
 returns-in-Some c =

@@ -4,7 +4,7 @@ ghost use Rattle.std.specs.declared.option.Option.the-variants.{Some};
 ghost use Rattle.address.specs.Convention.{standard};
 ghost use Rattle.address.specs.Address.{finalize-answer};
 ghost use Rattle.address.specs.Held.{answer-in, when-ok};
-ghost use Rattle.access.specs.Window.{with-outgoing};
+ghost use Rattle.finalize.specs.Window.{with-outgoing};
 use crate::finalize::mem_finalize;
 use address::args::Helpers;
 use address::args::MemArg;

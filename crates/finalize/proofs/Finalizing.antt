@@ -33,9 +33,9 @@ use Rattle.address.specs.declared.frame.Frame as frame
 use Rattle.address.specs.Convention.{zero-reg, int-reg, Convention, standard}
 use Rattle.address.specs.Address.{Address, bxd12, bxd20, label, constant, symbol, Mode, real, virtual, mode, total, frame-overflows, Helper, load-address, Helpers, only, also, must-load, flags-of, flags-in, resolved, loaded, widened, finalize, finalize-refusal, finalize-answer, displaced, lacks-form, mode-checks, form-checks}
 use Rattle.address_law.proofs.Leading.{finalizing-stands}
-use Rattle.access.specs.Answers.{Stands}
+use Rattle.finalize.specs.Answers.{Stands}
 use Rattle.address.specs.Held.{when-ok, held, helper-of, helpers-in, both, answer-in, offset-of}
-use Rattle.access.specs.Steps.{first-in, part-in, joined-in, resolve-answer, load-answer, widen-answer, steps-refusal, steps-answer}
+use Rattle.finalize.specs.Steps.{first-in, part-in, joined-in, resolve-answer, load-answer, widen-answer, steps-refusal, steps-answer}
 
 -- The sum of an offset.
 

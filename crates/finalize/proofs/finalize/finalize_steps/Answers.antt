@@ -1,7 +1,7 @@
 use Rattle.std.proofs.shelf.Results.{err-from-errBy}
 use Rattle.address.specs.Convention.{standard}
-use Rattle.access.proofs.Finalizing.{steps-first, steps-last, steps-done}
-use Rattle.access.proofs.finalize.finalize_steps.Needs as need
+use Rattle.finalize.proofs.Finalizing.{steps-first, steps-last, steps-done}
+use Rattle.finalize.proofs.finalize.finalize_steps.Needs as need
 
 pub returns-in-Break-first : need.returns-in-Break-first
 returns-in-Break-first c =

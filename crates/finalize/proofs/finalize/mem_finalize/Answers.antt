@@ -1,6 +1,6 @@
 use Rattle.std.proofs.shelf.Results.{err-from-errBy, made-from-err}
-use Rattle.access.proofs.Finalizing.{answer-ok, answer-stands, answer-err}
-use Rattle.access.proofs.finalize.mem_finalize.Needs as need
+use Rattle.finalize.proofs.Finalizing.{answer-ok, answer-stands, answer-err}
+use Rattle.finalize.proofs.finalize.mem_finalize.Needs as need
 
 pub returns-in-Break-answer : need.returns-in-Break-answer
 returns-in-Break-answer c =

@@ -1,8 +1,8 @@
 use mathlib.Core.Path.{sym, _∙_, ap}
 use Rattle.address.specs.Convention.{standard}
 use Rattle.address.specs.declared.frame.Frame as frame
-use Rattle.access.proofs.Finalizing.{load-not, load-done}
-use Rattle.access.proofs.finalize.load.Needs as need
+use Rattle.finalize.proofs.Finalizing.{load-not, load-done}
+use Rattle.finalize.proofs.finalize.load.Needs as need
 
 no-frame : frame.Frame
 no-frame = record { «incoming_args_size» = 0; «clobber_size» = 0; «fixed_frame_storage_size» = 0; «stackslots_size» = 0; «outgoing_args_size» = 0; «nominal_sp_offset» = 0; «outgoing_sp_offset» = 0 }

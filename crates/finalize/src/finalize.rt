@@ -4,10 +4,10 @@ ghost use Rattle.std.specs.declared.option.Option.the-variants.{Some, None};
 ghost use Rattle.std.specs.Vec.{made};
 ghost use Rattle.refusal.specs.Refusals.{when-some, answered};
 ghost use Rattle.address.specs.Convention.{standard};
-ghost use Rattle.address.specs.Address.{on-stack, total, virtual, mode, frame-overflows, registers-fit, must-load, finalize, finalize-refusal, finalize-answer};
+ghost use Rattle.address.specs.Address.{on-stack, total, virtual, mode, frame-overflows, must-load, finalize, finalize-refusal, finalize-answer};
 ghost use Rattle.address.specs.Held.{held, offset-of, answer-in, helpers-in, when-ok};
-ghost use Rattle.access.specs.Answers.{Stands};
-ghost use Rattle.access.specs.Steps.{part-in, joined-in, resolve-answer, load-answer, widen-answer, steps-answer};
+ghost use Rattle.finalize.specs.Answers.{Stands};
+ghost use Rattle.finalize.specs.Steps.{part-in, joined-in, resolve-answer, load-answer, widen-answer, steps-answer};
 use address::args::Helper;
 use address::args::Helpers;
 use address::args::MachMemFlags;
@@ -21,23 +21,10 @@ use address::convention::zero_reg;
 use address::frame::Frame;
 use operand::imms::SImm20;
 use operand::imms::UImm12;
-use operand::reg::is_gpr;
 use refusal::Reason;
 use refusal::Refusal;
 use refusal::RefusalFromReason;
 use refusal::at;
-
-// Whether its registers are integer registers that exist.
-pub(crate) fn registers_fit(mem: &MemArg) -> bool
-    ensures { λ b. ⌜ b ≡ registers-fit (now (mem .entry)) ⌝ }
-{
-    match *mem {
-        MemArg::BXD12 { base, index, .. } => is_gpr(base) && is_gpr(index),
-        MemArg::BXD20 { base, index, .. } => is_gpr(base) && is_gpr(index),
-        MemArg::RegOffset { reg, .. } => is_gpr(reg),
-        _ => true,
-    }
-}
 
 // An offset from the stack's register.
 fn on_stack(off: i64, sizes: u64, less: u32) -> Offset
@@ -228,8 +215,8 @@ fn widen(mem: MemArg, mi: MemInstType) -> Result<MemArg, Reason>
     }
 }
 
-// The steps of finalizing an address whose registers fit.
-pub(crate) fn finalize_steps(
+/// The steps of `mem_finalize` for an address whose registers are known to exist, with the bare reason.
+pub fn finalize_steps(
     mem: &MemArg,
     frame: &Frame,
     mi: MemInstType,
@@ -246,7 +233,7 @@ pub(crate) fn finalize_steps(
 fn checked(mem: &MemArg, frame: &Frame, mi: MemInstType) -> Result<(Helpers, MemArg), Reason>
     ensures { λ r. ⌜ when-ok answer-in r ≡ answered (finalize-refusal standard mi (now (frame .entry)) (now (mem .entry))) (Some (finalize standard mi (now (frame .entry)) (now (mem .entry)))) ⌝ }
 {
-    if !registers_fit(mem) {
+    if !mem.registers_fit() {
         return Err(Reason::Operand);
     }
     finalize_steps(mem, frame, mi)
