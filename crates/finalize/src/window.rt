@@ -43,7 +43,7 @@ impl<'a> CallWindow<'a> {
     pub fn frame(&self) -> &Frame
         ensures { λ r. ⌜ now r ≡ now (now (self .entry) .frame) ⌝ }
     {
-        self.frame
+        &*self.frame
     }
 }
 
