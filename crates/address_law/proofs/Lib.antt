@@ -1,0 +1,5 @@
+pub mod Basics
+pub mod Conventions
+pub mod Words
+pub mod Leading
+pub mod Reaching

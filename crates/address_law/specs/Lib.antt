@@ -1,0 +1,3 @@
+pub mod Items
+pub mod Standing
+pub mod Reaching
