@@ -1,4 +1,2 @@
 pub mod Numbers
 pub mod Laws
-pub mod Families
-pub mod Halves

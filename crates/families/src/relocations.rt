@@ -1,17 +1,17 @@
-ghost use Rattle.field.specs.Family.{label-family};
+ghost use Rattle.field.specs.Family.{relocation-family};
 use crate::bytes::half_at;
 use crate::bytes::put_half;
 use crate::bytes::put_word;
 use crate::bytes::word_at;
-use crate::family::FieldPatch;
-use crate::family::FieldRead;
-use crate::verdict::FieldRefusal;
+use field::family::FieldPatch;
+use field::family::FieldRead;
+use field::verdict::FieldRefusal;
 
-/// Branch fields: kind 1 is BranchRI, kind 2 BranchRIL.
-pub struct Labels;
+/// Relocation fields: kind 1 is R_390_PC16DBL, kind 2 R_390_PC32DBL.
+pub struct Relocations;
 
-pub impl FieldRead for Labels as LabelsRead {
-    ghost fields = { label-family .fields };
+pub impl FieldRead for Relocations as RelocationsRead {
+    ghost fields = { relocation-family .fields };
 
     const ALIGN: i64 = 2;
 
@@ -21,23 +21,23 @@ pub impl FieldRead for Labels as LabelsRead {
 
     fn lead(kind: u8) -> Result<u8, FieldRefusal> {
         match kind {
-            1 | 2 => Ok(0),
+            1 | 2 => Ok(2),
             _ => Err(FieldRefusal::Kind),
         }
     }
 
     fn size(kind: u8) -> Result<u8, FieldRefusal> {
         match kind {
-            1 => Ok(4),
-            2 => Ok(6),
+            1 => Ok(2),
+            2 => Ok(4),
             _ => Err(FieldRefusal::Kind),
         }
     }
 
     fn field(kind: u8) -> Result<(u8, u8), FieldRefusal> {
         match kind {
-            1 => Ok((2, 4)),
-            2 => Ok((2, 6)),
+            1 => Ok((0, 2)),
+            2 => Ok((0, 4)),
             _ => Err(FieldRefusal::Kind),
         }
     }
@@ -45,7 +45,7 @@ pub impl FieldRead for Labels as LabelsRead {
     fn least(kind: u8) -> Result<i64, FieldRefusal> {
         match kind {
             1 => Ok(-65_536),
-            2 => Ok(-4_294_967_295),
+            2 => Ok(-4_294_967_296),
             _ => Err(FieldRefusal::Kind),
         }
     }
@@ -61,29 +61,29 @@ pub impl FieldRead for Labels as LabelsRead {
     fn held(kind: u8, bytes: &[u8]) -> Result<i64, FieldRefusal> {
         match kind {
             1 => {
+                if bytes.len() < 2 {
+                    return Err(FieldRefusal::Kind);
+                }
+                Ok(half_at(bytes, 0))
+            }
+            2 => {
                 if bytes.len() < 4 {
                     return Err(FieldRefusal::Kind);
                 }
-                Ok(half_at(bytes, 2))
-            }
-            2 => {
-                if bytes.len() < 6 {
-                    return Err(FieldRefusal::Kind);
-                }
-                Ok(word_at(bytes, 2))
+                Ok(word_at(bytes, 0))
             }
             _ => Err(FieldRefusal::Kind),
         }
     }
 }
 
-pub impl FieldPatch for Labels as LabelsPatch {
-    ghost patched = { label-family .patched };
+pub impl FieldPatch for Relocations as RelocationsPatch {
+    ghost patched = { relocation-family .patched };
 
     fn patch(kind: u8, bytes: &mut [u8], distance: i64) -> Result<(), FieldRefusal> {
         match kind {
             1 => {
-                if bytes.len() < 4 {
+                if bytes.len() < 2 {
                     return Err(FieldRefusal::Kind);
                 }
                 if distance < -65_536 || distance > 65_534 {
@@ -92,20 +92,20 @@ pub impl FieldPatch for Labels as LabelsPatch {
                 if distance % Self::ALIGN != 0 {
                     return Err(FieldRefusal::Odd);
                 }
-                put_half(bytes, 2, distance);
+                put_half(bytes, 0, distance);
                 Ok(())
             }
             2 => {
-                if bytes.len() < 6 {
+                if bytes.len() < 4 {
                     return Err(FieldRefusal::Kind);
                 }
-                if distance < -4_294_967_295 || distance > 4_294_967_294 {
+                if distance < -4_294_967_296 || distance > 4_294_967_294 {
                     return Err(FieldRefusal::Far);
                 }
                 if distance % Self::ALIGN != 0 {
                     return Err(FieldRefusal::Odd);
                 }
-                put_word(bytes, 2, distance);
+                put_word(bytes, 0, distance);
                 Ok(())
             }
             _ => Err(FieldRefusal::Kind),
