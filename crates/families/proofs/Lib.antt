@@ -1,2 +1,3 @@
 pub mod Families
 pub mod Halves
+pub mod Ready

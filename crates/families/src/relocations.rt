@@ -3,6 +3,7 @@ use crate::bytes::half_at;
 use crate::bytes::put_half;
 use crate::bytes::put_word;
 use crate::bytes::word_at;
+use field::distance::checked_distance;
 use field::family::FieldPatch;
 use field::family::FieldRead;
 use field::verdict::FieldRefusal;
@@ -81,34 +82,12 @@ pub impl FieldPatch for Relocations as RelocationsPatch {
     ghost patched = { relocation-family .patched };
 
     fn patch(kind: u8, bytes: &mut [u8], distance: i64) -> Result<(), FieldRefusal> {
+        let _ = checked_distance::<Self>(kind, bytes.len(), distance as i128)?;
         match kind {
-            1 => {
-                if bytes.len() < 2 {
-                    return Err(FieldRefusal::Kind);
-                }
-                if distance < -65_536 || distance > 65_534 {
-                    return Err(FieldRefusal::Far);
-                }
-                if distance % Self::ALIGN != 0 {
-                    return Err(FieldRefusal::Odd);
-                }
-                put_half(bytes, 0, distance);
-                Ok(())
-            }
-            2 => {
-                if bytes.len() < 4 {
-                    return Err(FieldRefusal::Kind);
-                }
-                if distance < -4_294_967_296 || distance > 4_294_967_294 {
-                    return Err(FieldRefusal::Far);
-                }
-                if distance % Self::ALIGN != 0 {
-                    return Err(FieldRefusal::Odd);
-                }
-                put_word(bytes, 0, distance);
-                Ok(())
-            }
-            _ => Err(FieldRefusal::Kind),
+            1 => put_half(bytes, 0, distance),
+            2 => put_word(bytes, 0, distance),
+            _ => {}
         }
+        Ok(())
     }
 }

@@ -2,3 +2,5 @@
 
 pub mod verdict;
 pub mod family;
+pub mod distance;
+pub mod fit;

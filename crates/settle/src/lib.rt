@@ -1,12 +1,9 @@
 //! Settling: the fields of all uses are checked, and then each is filled with its distance, by any two families.
 
 ghost use mathlib.Core.Path.{_≡_};
-ghost use mathlib.Core.Bool.{cond, _||_};
-ghost use lib.IntN.{pos, natAbs, _+ℤ_, _-ℤ_};
-ghost use lib.Signed.{ltZ, _<ℤ_};
-ghost use Rattle.std.specs.declared.option.Option.the-variants.{Some, None};
+ghost use lib.IntN.{pos, _+ℤ_, _-ℤ_};
 ghost use Rattle.refusal.specs.Refusals.{answered};
-ghost use Rattle.field.specs.Family.{family, refuses, multiple};
+ghost use Rattle.field.specs.Family.{family};
 ghost use Rattle.book.specs.Labels.{place-of};
 ghost use Rattle.book.specs.Listed.{labels-in};
 ghost use Rattle.settle_law.specs.Settle.{family-for, uses-refusal, patched-all};
@@ -16,10 +13,9 @@ use book::label_book::LabelBook;
 use book::target::Slot;
 use book::target::Target;
 use book::target::Use;
+use field::distance::checked_distance;
 use field::family::FieldPatch;
 use field::family::FieldRead;
-use field::family::alignment;
-use field::verdict::FieldRefusal;
 use field::verdict::RefusalFromField;
 use field::verdict::at_field;
 use refusal::Reason;
@@ -70,56 +66,13 @@ fn window<F: FieldRead>(kind: u8, place: usize, len: usize) -> (usize, usize)
     (from, past)
 }
 
-/// The distance, if it lies in this range.
-fn within(distance: i128, least: i64, greatest: i64) -> Option<i64>
-    ensures { λ r. ⌜ r ≡ cond (ltZ distance least || ltZ greatest distance) None (Some distance) ⌝ }
-{
-    if distance < least as i128 || distance > greatest as i128 {
-        return None;
-    }
-    Some(distance as i64)
-}
-
-fn divides(step: i64, distance: i64) -> bool
-    requires { ⌜ pos 0 <ℤ step ⌝ }
-    ensures { λ r. ⌜ r ≡ multiple (natAbs step) distance ⌝ }
-{
-    distance % step == 0
-}
-
-/// Whether a family's fields can hold the distance as a whole number.
-fn aligned<F: FieldRead>(distance: i64) -> bool
-    ensures { λ r. ⌜ r ≡ multiple (F·FieldRead .fields .align) distance ⌝ }
-{
-    divides(alignment::<F>(), distance)
-}
-
-/// The distance, if a field of this kind can hold it in so many bytes.
-fn reached<F: FieldRead>(kind: u8, given: usize, distance: i128) -> Result<i64, FieldRefusal>
-    ensures { λ r. ⌜ r ≡ answered (refuses (F·FieldRead .fields) kind given distance) distance ⌝ }
-{
-    let size = F::size(kind)?;
-    let least = F::least(kind)?;
-    let greatest = F::greatest(kind)?;
-    if given < size as usize {
-        return Err(FieldRefusal::Kind);
-    }
-    let Some(near) = within(distance, least, greatest) else {
-        return Err(FieldRefusal::Far);
-    };
-    if !aligned::<F>(near) {
-        return Err(FieldRefusal::Odd);
-    }
-    Ok(near)
-}
-
 /// The distance that a use gets, or why it gets none.
 fn plan<F: FieldRead>(field: &Use, wanted: Option<i128>, len: usize) -> Result<i64, Refusal>
     ensures { λ r. ⌜ r ≡ planned (F·FieldRead .fields) (now (field .entry)) len wanted ⌝ }
 {
     let distance = at(field.place, wanted.ok_or(Reason::Unbound))?;
     let (from, past) = window::<F>(field.kind, field.place, len);
-    let near = at_field(field.place, reached::<F>(field.kind, past - from, distance))?;
+    let near = at_field(field.place, checked_distance::<F>(field.kind, past - from, distance))?;
     Ok(near)
 }
 

@@ -9,9 +9,9 @@ use mir.Syntax.{w64, w128}
 use Rattle.std.proofs.shelf.Signed.{toZ-ofZ}
 use Rattle.std.specs.declared.option.Option.{Option}
 use Rattle.std.specs.declared.option.Option.the-variants.{Some, None}
 use Rattle.field.specs.Family.{multiple}
-use Rattle.settle.proofs.InRange.{reached-ok, reached-odd}
-use Rattle.settle.proofs.reached.Needs as need
+use Rattle.field.proofs.InRange.{reached-ok, reached-odd}
+use Rattle.field.proofs.distance.checked_distance.Needs as need
 
 pub returns-then-not-aligned : need.returns-then-not-aligned
 returns-then-not-aligned g c =
