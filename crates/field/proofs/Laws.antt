@@ -14,6 +14,9 @@ use Rattle.std.proofs.shelf.Elements.{all-append, all-take, all-drop}
 use Rattle.std.proofs.shelf.Tests.{both-ways, or-parts, not-false, ltb-false}
 use Rattle.std.specs.declared.option.Option.{Option}
 use Rattle.std.specs.declared.option.Option.the-variants.{Some, None}
+use Rattle.std.specs.declared.result.Result.{Result}
+use Rattle.std.specs.declared.result.Result.the-variants.{Ok, Err}
+use Rattle.refusal.specs.Refusals.{answered, unless}
 use Rattle.refusal.specs.Numbers.{signed, wrap, big-endian, bytes-of-number}
 use Rattle.field.specs.declared.verdict.FieldRefusal.{FieldRefusal}
 use Rattle.field.specs.declared.verdict.FieldRefusal.the-variants.{Kind, Far, Odd}
@@ -116,3 +119,18 @@ overwriting a table one fits =
           subst (λ (o : Option FieldInfo). Patches a i d bytes (overwritten a o bytes d)) (sym e)
           (overwrites a i d bytes one (fits k i e) bs (accepted a i (length bytes) d (subst (λ (o : Option FieldInfo). refuses-by a o (length bytes) d ≡ None) e ok)));
     }
+
+-- A patch whose verdict is a refusal.
+module _ (o : Option FieldRefusal) {X : Type 0} (x : X) (e : FieldRefusal) (h : _≡_ {A = Result X FieldRefusal} (Err e) (answered o x)) where
+  pub refused-some : o ≡ Some e
+  refused-some = go o h
+    where
+      go : (q : Option FieldRefusal) → _≡_ {A = Result X FieldRefusal} (Err e) (answered q x) → q ≡ Some e
+      go None h = let z : _≡_ {A = ℕ} 0 1 = cc in absurd (omega arith)
+      go (Some r) h = let k : r ≡ e = cc in ap Some k
+
+  pub refused-answer : _≡_ {A = Result (Unit {0}) FieldRefusal} (Err e) (answered o tt)
+  refused-answer = sym (ap (λ (q : Option FieldRefusal). answered {X = Unit {0}} q tt) refused-some)
+
+  pub refused-leaves : (done found : List ℕ) → found ≡ unless o done found
+  refused-leaves done found = sym (ap (λ (q : Option FieldRefusal). unless q done found) refused-some)

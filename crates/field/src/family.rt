@@ -57,12 +57,3 @@ pub trait FieldPatch: FieldRead {
         ensures answers { λ r. ⌜ r ≡ answered (refuses (Self·FieldRead .fields) kind (length (now (bytes .entry))) distance) tt ⌝ }
         ensures leaves { λ _. ⌜ now (bytes .exit) ≡ after-patch (family (Self·FieldRead .fields) patched) kind (now (bytes .entry)) distance ⌝ };
 }
-
-/// The alignment of a family, for generic code.
-pub fn alignment<F: FieldRead>() -> i64
-    ensures { λ r. ⌜ r ≡ pos (F·FieldRead .fields .align) ⌝ }
-{
-    let a = F::ALIGN;
-    let b = F::step();
-    if a == b { a } else { b }
-}

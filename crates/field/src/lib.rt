@@ -1,7 +1,6 @@
-//! Fields that hold a distance: the interface of a family of them, the label family and the relocation family.
+//! Fields that hold a distance, and the interface of a family of them: one that reads, and one that adds writing.
 
-mod bytes;
-pub mod family;
-pub mod labels;
-pub mod relocations;
 pub mod verdict;
+pub mod family;
+pub mod distance;
+pub mod fit;

@@ -16,7 +16,7 @@ use Rattle.std.specs.declared.option.Option.the-variants.{Some, None}
 use Rattle.std.specs.declared.result.Result.{Result}
 use Rattle.std.specs.declared.result.Result.the-variants.{Ok, Err}
 use Rattle.refusal.specs.declared.Refusal.{Refusal}
-use Rattle.refusal.specs.Refusals.{when-some, unless}
+use Rattle.refusal.specs.Refusals.{Answer, answered, when-some, unless}
 use Rattle.refusal.specs.Numbers.{big-endian, signed}
 use Rattle.field.specs.declared.verdict.FieldRefusal.{FieldRefusal}
 use Rattle.field.specs.declared.verdict.FieldRefusal.the-variants.{Kind}
@@ -24,9 +24,11 @@ use Rattle.field.specs.Family.{FieldInfo, Fields, Family, Lawful, Patches, fiel
 use Rattle.field.proofs.Laws.{accepted, never-none, same-some}
 use Rattle.book.specs.declared.target.Target.{Target}
 use Rattle.book.specs.declared.target.Target.the-variants.{Label as to-label, Symbol as to-symbol}
+use Rattle.book.specs.declared.target.Slot.{Slot}
 use Rattle.book.specs.declared.target.Use.{Use}
+use Rattle.book.specs.Labels.{place-of}
 use Rattle.settle_law.specs.Settle.{family-for, held-at, window-of, window-start, write-at, first-of, distance-refused, uses-refusal, patched-to, patched-all}
-use Rattle.settle_law.specs.Settled.{Bytes, info-of, field-from, field-past, Outside, Apart, Zero, Holds, Settled}
+use Rattle.settle_law.specs.Settled.{Bytes, info-of, field-from, field-past, Outside, Apart, Zero, Holds, Settled, Settles}
 use Rattle.settle_law.proofs.Splices.{Spliced, spliced, kept, same-field, between-length}
 
 -- Refusals.
@@ -201,3 +203,20 @@ module _ (L S : Family) (l : Lawful L) (m : Lawful S) (where-is : Target → Opt
       subst (λ (w : Option ℤ). One F u (info .0) (p -ℤ pos (u .place)) code (patched-to F u code w)) (sym (found .1)) (one F (lawful-for (u .target)) u (info .0) p code b (info .1) ok) in
       settled-more u us (info .0) p code mid (patched-all L S where-is mid us) (info .1) (found .1) o
       (settled us mid (o .bytes) (same-refusals L S where-is us mid code (o .same) ∙ t .1))
+
+-- What a check that passed, and then filling, come to.
+
+passed-none : (o : Option Refusal) → _≡_ {A = Answer} (Ok tt) (answered o tt) → o ≡ None
+passed-none None h = refl
+passed-none (Some e) h = let z : _≡_ {A = ℕ} 0 1 = cc in absurd (omega arith)
+
+pub settles : (L S : Family) → Lawful L → Lawful S → (labels : List Slot) (symbols : List ℤ) (us : List Use) (code new : List ℕ) → Bytes code
+    → _≡_ {A = Answer} (Ok tt) (answered (uses-refusal L S (place-of labels symbols) code us) tt) → new ≡ patched-all L S (place-of labels symbols) code us → Settles L S labels symbols us code (Ok tt) new
+settles L S l m labels symbols us code new b passed done =
+    let where-is : Target → Option ℤ = place-of labels symbols in
+    let none : uses-refusal L S where-is code us ≡ None = passed-none (uses-refusal L S where-is code us) passed in
+    record {
+      answers = passed;
+      leaves = done ∙ ap (λ (o : Option Refusal). unless o (patched-all L S where-is code us) code) (sym none);
+      fills = λ _. subst (Settled L S where-is us code) (sym done) (settled L S l m where-is us code b none);
+    }

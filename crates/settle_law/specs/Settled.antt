@@ -11,7 +11,10 @@ use Rattle.std.specs.declared.option.Option.the-variants.{Some, None}
 use Rattle.std.specs.declared.result.Result.the-variants.{Ok}
 use Rattle.refusal.specs.Numbers.{big-endian}
 use Rattle.field.specs.Family.{FieldInfo, Family, Lawful, field-bytes}
+use Rattle.refusal.specs.Refusals.{Answer, answered, unless}
 use Rattle.book.specs.declared.target.Target.{Target}
+use Rattle.book.specs.declared.target.Slot.{Slot}
+use Rattle.book.specs.Labels.{place-of}
 use Rattle.book.specs.declared.target.Use.{Use}
 use Rattle.settle_law.specs.Settle.{family-for, held-at, window-of, uses-refusal, patched-all}
 
@@ -52,6 +55,13 @@ pub record Settled (L S : Family) (where-is : Target → Option ℤ) (us : List 
   pub untouched : (k : ℕ) → All (Outside L S k) us → getD new k 0 ≡ getD old k 0
   pub holds : (before after : List Use) (u : Use) → us ≡ before ++ u ∷ after → All (Apart L S u) before → All (Apart L S u) after → Zero L S old u → Holds L S where-is new u
 
+-- Settling answers r and leaves `new`: the first refusal and the code as it was, or nothing and every field filled.
+pub record Settles (L S : Family) (labels : List Slot) (symbols : List ℤ) (us : List Use) (old : List ℕ) (r : Answer) (new : List ℕ) : Type 0 where
+  pub answers : r ≡ answered (uses-refusal L S (place-of labels symbols) old us) tt
+  pub leaves : new ≡ unless (uses-refusal L S (place-of labels symbols) old us) (patched-all L S (place-of labels symbols) old us) old
+  pub fills : r ≡ Ok tt → Settled L S (place-of labels symbols) us old new
+
+-- for any two lawful families
 abbrev pub Settling-fills : Type 0
 Settling-fills =
     (L S : Family) → Lawful L → Lawful S → (where-is : Target → Option ℤ) (code : List ℕ) (us : List Use) → Bytes code →

@@ -1,0 +1,68 @@
+use Prim.Native.Nat.{ℕ}
+use mathlib.Core.Path.{_≡_, refl, sym, ap, _∙_}
+use native.Mathlib.Omega.{arith}
+use lib.IntN.{ℤ}
+use lib.ListN.{length}
+use borrow.Author.Needs.{needs}
+use mir.Val.{toZ, ofZ, SFits}
+use mir.Syntax.{w64, w128}
+use Rattle.std.specs.declared.result.Result.{Result}
+use Rattle.std.specs.declared.result.Result.the-variants.{Ok, Err}
+use Rattle.std.proofs.shelf.Signed.{ints, toZ-ofZ}
+use Rattle.refusal.specs.Refusals.{answered}
+use Rattle.field.specs.declared.verdict.FieldRefusal.{FieldRefusal}
+use Rattle.field.specs.Family.{label-table, label-family, refuses}
+use Rattle.field.proofs.Laws.{refused-answer, refused-leaves}
+use Rattle.families.proofs.Families.{label-short, label-long}
+use Rattle.families.proofs.Ready.{ready, answers, leaves}
+use Rattle.families.proofs.labels.LabelsPatch.patch.Needs as need
+
+pub returns-in-Break-checked-distance : need.returns-in-Break-checked-distance
+returns-in-Break-checked-distance c =
+    let d : ℤ = c .args .distance in
+    let e : FieldRefusal = c .in-Break-checked-distance .field-0 .0 in
+    let f : SFits w64 d = c .fits .distance in
+    let f′ : SFits w128 d = search needs in
+    let h : _≡_ {A = Result ℤ FieldRefusal} (Err e) (answered (refuses (label-family .fields) (c .args .kind) (length (c .args .bytes .now)) d) d) = simp toZ-ofZ at (sym (c .in-Break-checked-distance .was tt) ∙ c .checked-distance .ensures) in
+    let k = refused-answer (refuses (label-family .fields) (c .args .kind) (length (c .args .bytes .now)) d) d e h in
+    record { answers = search needs; leaves = refused-leaves (refuses (label-family .fields) (c .args .kind) (length (c .args .bytes .now)) d) d e h (label-family .patched (c .args .kind) (c .args .bytes .now) d) (c .args .bytes .now) }
+
+pub put-half-requires : need.put-half-requires
+put-half-requires c κs =
+    let d : ℤ = c .args .distance in
+    let f : SFits w64 d = c .fits .distance in
+    let f′ : SFits w128 d = search needs in
+    let h : _≡_ {A = Result ℤ FieldRefusal} (Ok (c .in-Continue-checked-distance .field-0)) (answered (refuses (label-family .fields) (c .args .kind) (length (c .args .bytes .now)) d) d) = simp toZ-ofZ at (c .in-Continue-checked-distance .ensures tt) in
+    let r = ready label-family (c .args .kind) (c .args .bytes .now) d (c .in-Continue-checked-distance .field-0) h refl label-short (ap label-table (c .in-1 .is)) in
+    simp toZ-ofZ (record { room = r .room; low = r .low; high = r .high; even = r .even })
+
+pub returns-in-1 : need.returns-in-1
+returns-in-1 c =
+    let d : ℤ = c .args .distance in
+    let f : SFits w64 d = c .fits .distance in
+    let f′ : SFits w128 d = search needs in
+    let h : _≡_ {A = Result ℤ FieldRefusal} (Ok (c .in-Continue-checked-distance .field-0)) (answered (refuses (label-family .fields) (c .args .kind) (length (c .args .bytes .now)) d) d) = simp toZ-ofZ at (c .in-Continue-checked-distance .ensures tt) in
+    record {
+      answers = answers label-family (c .args .kind) (c .args .bytes .now) d (c .in-Continue-checked-distance .field-0) h;
+      leaves = leaves label-family (c .args .kind) (c .args .bytes .now) d (c .in-Continue-checked-distance .field-0) h (c .put-half .last .bytes) (simp toZ-ofZ at (c .put-half .ensures) ∙ ap (λ (k : ℕ). label-family .patched k (c .args .bytes .now) d) (sym (c .in-1 .is)));
+    }
+
+pub put-word-requires : need.put-word-requires
+put-word-requires c κs =
+    let d : ℤ = c .args .distance in
+    let f : SFits w64 d = c .fits .distance in
+    let f′ : SFits w128 d = search needs in
+    let h : _≡_ {A = Result ℤ FieldRefusal} (Ok (c .in-Continue-checked-distance .field-0)) (answered (refuses (label-family .fields) (c .args .kind) (length (c .args .bytes .now)) d) d) = simp toZ-ofZ at (c .in-Continue-checked-distance .ensures tt) in
+    let r = ready label-family (c .args .kind) (c .args .bytes .now) d (c .in-Continue-checked-distance .field-0) h refl label-long (ap label-table (c .in-2 .is)) in
+    simp toZ-ofZ (record { room = r .room; low = let w = r .low in omega (arith, ints); high = r .high; even = r .even })
+
+pub returns-in-2 : need.returns-in-2
+returns-in-2 c =
+    let d : ℤ = c .args .distance in
+    let f : SFits w64 d = c .fits .distance in
+    let f′ : SFits w128 d = search needs in
+    let h : _≡_ {A = Result ℤ FieldRefusal} (Ok (c .in-Continue-checked-distance .field-0)) (answered (refuses (label-family .fields) (c .args .kind) (length (c .args .bytes .now)) d) d) = simp toZ-ofZ at (c .in-Continue-checked-distance .ensures tt) in
+    record {
+      answers = answers label-family (c .args .kind) (c .args .bytes .now) d (c .in-Continue-checked-distance .field-0) h;
+      leaves = leaves label-family (c .args .kind) (c .args .bytes .now) d (c .in-Continue-checked-distance .field-0) h (c .put-word .last .bytes) (simp toZ-ofZ at (c .put-word .ensures) ∙ ap (λ (k : ℕ). label-family .patched k (c .args .bytes .now) d) (sym (c .in-2 .is)));
+    }
