@@ -1,0 +1,4 @@
+pub mod Inventory
+pub mod Section
+pub mod Matching
+pub mod Law
