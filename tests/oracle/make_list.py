@@ -77,7 +77,7 @@ def steady(kinds):
 
 
 def drawn(rng, kind):
-    """A value of the kind: three times in four one that it can have."""
+    """A value of the kind. Of ten registers, nine are of their kind; of the numbers, half are from the list above."""
     if kind in RIGHT:
         return rng.choice(RIGHT[kind] if rng.random() < 0.9 else ANY)
     return rng.choice(VALUES[kind]) if rng.random() < 0.5 else str(rng.randint(*RANGES[kind]))
