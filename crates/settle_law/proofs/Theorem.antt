@@ -92,8 +92,8 @@ one F law u i p code b t r₀ =
     let P : Patches (F .fields .align) i d win part = law .patches k i win d bw t r in
     let enough : i .size ≤ length win = accepted (F .fields .align) i (length win) d r′ .enough in
     let e : patched-to F u code (Some p) ≡ write-at s part code =
-        ap (λ (q : Option FieldInfo). write-at (window-start q at) (unless (refuses (F .fields) k (length (window-of q at code)) d) (F .patched k (window-of q at code) d) (window-of q at code)) code) t
-        ∙ ap (λ (z : Option FieldRefusal). write-at s (unless z part win) code) r in
+    ap (λ (q : Option FieldInfo). write-at (window-start q at) (unless (refuses (F .fields) k (length (window-of q at code)) d) (F .patched k (window-of q at code) d) (window-of q at code)) code) t
+    ∙ ap (λ (z : Option FieldRefusal). write-at s (unless z part win) code) r in
     let sp : Spliced s (i .size) code (write-at s part code) part = spliced s (i .size) code part enough (P .same-length) in
     subst (λ (z : List ℕ). One F u i d code z) (sym e)
     (record {
@@ -150,14 +150,14 @@ module _ (L S : Family) (l : Lawful L) (m : Lawful S) (where-is : Target → Opt
 
   -- the first use is patched, and the others after it
   module _ (u : Use) (us : List Use) (i : FieldInfo) (p : ℤ) (code mid new : List ℕ) (ti : info-of L S u ≡ Some i) (found : where-is (u .target) ≡ Some p)
-    (o : One (family-for L S (u .target)) u i (p -ℤ pos (u .place)) code mid) (rest : Settled L S where-is us mid new) where
+      (o : One (family-for L S (u .target)) u i (p -ℤ pos (u .place)) code mid) (rest : Settled L S where-is us mid new) where
     holds-first : (v : Use) → u ≡ v → All (Apart L S v) us → Zero L S code v → Holds L S where-is new v
     holds-first v e a z =
         subst (Holds L S where-is new) e
         (λ p′ e′.
         let x : p ≡ p′ = same-some (sym found ∙ e′) in
         let f : field-bytes i (window-of (Some i) (u .place) new) ≡ field-bytes i (window-of (Some i) (u .place) mid) =
-            agreeing u i new mid ti (rest .same-length) (λ k lo hi. rest .untouched k (outsides u i ti k lo hi us (subst (λ (w : Use). All (Apart L S w) us) (sym e) a))) in
+        agreeing u i new mid ti (rest .same-length) (λ k lo hi. rest .untouched k (outsides u i ti k lo hi us (subst (λ (w : Use). All (Apart L S w) us) (sym e) a))) in
         let F = family-for L S (u .target) in
         held-here u i (p′ -ℤ pos (u .place)) code new ti (o .enough) (rest .same-length ∙ o .same)
         (ap (λ (w : List ℕ). pos (F .fields .align) *ℤ signed (8 * (i .past - i .first)) (big-endian 0 w)) f
@@ -200,7 +200,7 @@ module _ (L S : Family) (l : Lawful L) (m : Lawful S) (where-is : Target → Opt
       let info = has-info (F .fields .align) n (p -ℤ pos (u .place)) (F .fields .table (u .kind)) ok in
       let mid : List ℕ = patched-to F u code (where-is (u .target)) in
       let o : One F u (info .0) (p -ℤ pos (u .place)) code mid =
-          subst (λ (w : Option ℤ). One F u (info .0) (p -ℤ pos (u .place)) code (patched-to F u code w)) (sym (found .1)) (one F (lawful-for (u .target)) u (info .0) p code b (info .1) ok) in
+      subst (λ (w : Option ℤ). One F u (info .0) (p -ℤ pos (u .place)) code (patched-to F u code w)) (sym (found .1)) (one F (lawful-for (u .target)) u (info .0) p code b (info .1) ok) in
       settled-more u us (info .0) p code mid (patched-all L S where-is mid us) (info .1) (found .1) o
       (settled us mid (o .bytes) (same-refusals L S where-is us mid code (o .same) ∙ t .1))
 
