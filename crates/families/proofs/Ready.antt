@@ -38,7 +38,7 @@ module _ (F : Family) (k : ℕ) (bytes : List ℕ) (d x : ℤ) (h : _≡_ {A = R
   pub ready : F .fields .align ≡ 2 → (i : FieldInfo) → F .fields .table k ≡ Some i → Ready i (length bytes) d
   ready two i t =
       let r : refuses-by 2 (Some i) (length bytes) d ≡ None =
-          subst (λ (a : ℕ). refuses-by a (Some i) (length bytes) d ≡ None) two (subst (λ (o : Option FieldInfo). refuses-by (F .fields .align) o (length bytes) d ≡ None) t passed) in
+      subst (λ (a : ℕ). refuses-by a (Some i) (length bytes) d ≡ None) two (subst (λ (o : Option FieldInfo). refuses-by (F .fields .align) o (length bytes) d ≡ None) t passed) in
       let a = accepted 2 i (length bytes) d r in
       record { room = a .enough; low = not-below d (i .least) (a .not-below); high = not-below (i .greatest) d (a .not-above); even = eqb-true (natAbs d % 2) 0 (a .even) }
 

@@ -43,9 +43,9 @@ module _ (a : ℕ) (n : ℕ) (d near : ℤ) (size : ℕ) (least greatest : ℤ) 
       let eg : greatest ≡ i .greatest = told-some (λ i. i .greatest) i greatest g in
       let r′ = in-range (ltZ d least || ltZ greatest d) near d r in
       let b : (ltZ d (i .least) || ltZ (i .greatest) d) ≡ false =
-          subst (λ (z : ℤ). (ltZ d (i .least) || ltZ z d) ≡ false) eg (subst (λ (z : ℤ). (ltZ d z || ltZ greatest d) ≡ false) el (r′ .0)) in
+      subst (λ (z : ℤ). (ltZ d (i .least) || ltZ z d) ≡ false) eg (subst (λ (z : ℤ). (ltZ d z || ltZ greatest d) ≡ false) el (r′ .0)) in
       passed (ltb n (i .size)) (ltZ d (i .least) || ltZ (i .greatest) d) (multiple a d) near d
-        (le-ltb n (i .size) (omega arith)) b (sym (ap (multiple a) (r′ .1)) ∙ m) (r′ .1)
+      (le-ltb n (i .size) (omega arith)) b (sym (ap (multiple a) (r′ .1)) ∙ m) (r′ .1)
 
   pub reached-odd : (o : Option FieldInfo) → Ok size ≡ told (λ i. i .size) o → Ok least ≡ told (λ i. i .least) o → Ok greatest ≡ told (λ i. i .greatest) o → size ≤ n →
       _≡_ {A = Option ℤ} (Some near) (cond (ltZ d least || ltZ greatest d) None (Some d)) → multiple a near ≡ false → Err Odd ≡ answered (refuses-by a o n d) d
@@ -56,6 +56,6 @@ module _ (a : ℕ) (n : ℕ) (d near : ℤ) (size : ℕ) (least greatest : ℤ) 
       let eg : greatest ≡ i .greatest = told-some (λ i. i .greatest) i greatest g in
       let r′ = in-range (ltZ d least || ltZ greatest d) near d r in
       let b : (ltZ d (i .least) || ltZ (i .greatest) d) ≡ false =
-          subst (λ (z : ℤ). (ltZ d (i .least) || ltZ z d) ≡ false) eg (subst (λ (z : ℤ). (ltZ d z || ltZ greatest d) ≡ false) el (r′ .0)) in
+      subst (λ (z : ℤ). (ltZ d (i .least) || ltZ z d) ≡ false) eg (subst (λ (z : ℤ). (ltZ d z || ltZ greatest d) ≡ false) el (r′ .0)) in
       odd (ltb n (i .size)) (ltZ d (i .least) || ltZ (i .greatest) d) (multiple a d) d
-        (le-ltb n (i .size) (omega arith)) b (sym (ap (multiple a) (r′ .1)) ∙ m)
+      (le-ltb n (i .size) (omega arith)) b (sym (ap (multiple a) (r′ .1)) ∙ m)

@@ -42,7 +42,11 @@ fn aligned<F: FieldRead>(distance: i64) -> bool
 }
 
 /// The distance, if a field of this kind can hold it in so many bytes, or why it cannot: the one verdict that patching and settling go by.
-pub fn checked_distance<F: FieldRead>(kind: u8, given: usize, distance: i128) -> Result<i64, FieldRefusal>
+pub fn checked_distance<F: FieldRead>(
+    kind: u8,
+    given: usize,
+    distance: i128,
+) -> Result<i64, FieldRefusal>
     ensures { λ r. ⌜ r ≡ answered (refuses (F·FieldRead .fields) kind given distance) distance ⌝ }
 {
     let size = F::size(kind)?;

@@ -16,7 +16,11 @@ fn cut(distance: i64) -> u8
     requires high { ⌜ distance ≤ℤ pos 127 ⌝ }
     ensures { λ r. ⌜ r ≡ wrap 8 distance ⌝ }
 {
-    if distance < 0 { (distance + 256) as u8 } else { distance as u8 }
+    if distance < 0 {
+        (distance + 256) as u8
+    } else {
+        distance as u8
+    }
 }
 
 pub impl FieldRead for Added as AddedRead {
@@ -68,7 +72,11 @@ pub impl FieldRead for Added as AddedRead {
             7 => match bytes {
                 [] => Err(FieldRefusal::Kind),
                 [b, ..] => {
-                    if *b < 128 { Ok(*b as i64) } else { Ok(*b as i64 - 256) }
+                    if *b < 128 {
+                        Ok(*b as i64)
+                    } else {
+                        Ok(*b as i64 - 256)
+                    }
                 }
             },
             _ => Err(FieldRefusal::Kind),

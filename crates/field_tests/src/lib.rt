@@ -2,6 +2,5 @@
 
 mod added;
 mod quarters;
-
 #[cfg(test)]
 mod tests;

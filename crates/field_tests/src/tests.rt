@@ -1,0 +1,4 @@
+mod answers;
+mod books;
+mod kinds;
+mod settling;

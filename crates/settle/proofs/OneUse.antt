@@ -34,24 +34,26 @@ take-nil (suc n) = refl
 take-min : (k : ℕ) (xs : List ℕ) → take (min k (length xs)) xs ≡ take k xs
 take-min k xs =
     elim (decLe k (length xs)) [
-      yes h ↦ let e : min k (length xs) ≡ k = omega arith in ap (λ (n : ℕ). take n xs) e
-    | no h ↦
-        let q : length xs ≤ k = omega arith in
-        take-all (min k (length xs)) xs (omega arith) ∙ sym (take-all k xs q) ]
+      | yes h ↦ let e : min k (length xs) ≡ k = omega arith in ap (λ (n : ℕ). take n xs) e
+      | no h ↦
+          let q : length xs ≤ k = omega arith in
+          take-all (min k (length xs)) xs (omega arith) ∙ sym (take-all k xs q)
+    ]
 
 clamped : (code : List ℕ) (s k : ℕ) → take (min (s + k) (length code) - min s (length code)) (drop (min s (length code)) code) ≡ take k (drop s code)
 clamped code s k =
     elim (decLe s (length code)) [
-      yes h ↦
-        let e : min s (length code) ≡ s = omega arith in
-        let l : length (drop s code) ≡ length code - s = length-drop s code in
-        let f : min (s + k) (length code) - s ≡ min k (length (drop s code)) = omega arith in
-        ap (λ (m : ℕ). take (min (s + k) (length code) - m) (drop m code)) e ∙ ap (λ (m : ℕ). take m (drop s code)) f ∙ take-min k (drop s code)
-    | no h ↦
-        let e : min s (length code) ≡ length code = omega arith in
-        let p : drop (min s (length code)) code ≡ [] = drop-all (min s (length code)) code (omega arith) in
-        let q : drop s code ≡ [] = drop-all s code (omega arith) in
-        ap (take (min (s + k) (length code) - min s (length code))) p ∙ take-nil (min (s + k) (length code) - min s (length code)) ∙ sym (ap (take k) q ∙ take-nil k) ]
+      | yes h ↦
+          let e : min s (length code) ≡ s = omega arith in
+          let l : length (drop s code) ≡ length code - s = length-drop s code in
+          let f : min (s + k) (length code) - s ≡ min k (length (drop s code)) = omega arith in
+          ap (λ (m : ℕ). take (min (s + k) (length code) - m) (drop m code)) e ∙ ap (λ (m : ℕ). take m (drop s code)) f ∙ take-min k (drop s code)
+      | no h ↦
+          let e : min s (length code) ≡ length code = omega arith in
+          let p : drop (min s (length code)) code ≡ [] = drop-all (min s (length code)) code (omega arith) in
+          let q : drop s code ≡ [] = drop-all s code (omega arith) in
+          ap (take (min (s + k) (length code) - min s (length code))) p ∙ take-nil (min (s + k) (length code) - min s (length code)) ∙ sym (ap (take k) q ∙ take-nil k)
+    ]
 
 pub window-is : (o : Option FieldInfo) (at : ℕ) (code : List ℕ) → between (window-from o at (length code)) (window-past o at (length code)) code ≡ window-of o at code
 window-is None at code = clamped code at 0
@@ -93,11 +95,12 @@ paste-none code ys m =
 pasted-at : (code ys : List ℕ) (s k : ℕ) → length ys ≡ min (s + k) (length code) - min s (length code) → paste code (min s (length code)) ys (length ys) ≡ paste code s ys (length ys)
 pasted-at code ys s k h =
     elim (decLe s (length code)) [
-      yes q ↦ let e : min s (length code) ≡ s = omega arith in ap (λ (m : ℕ). paste code m ys (length ys)) e
-    | no q ↦
-        let e : length ys ≡ 0 = omega arith in
-        ap (λ (n : ℕ). paste code (min s (length code)) ys n) e ∙ paste-none code ys (min s (length code))
-        ∙ sym (ap (λ (n : ℕ). paste code s ys n) e ∙ paste-none code ys s) ]
+      | yes q ↦ let e : min s (length code) ≡ s = omega arith in ap (λ (m : ℕ). paste code m ys (length ys)) e
+      | no q ↦
+          let e : length ys ≡ 0 = omega arith in
+          ap (λ (n : ℕ). paste code (min s (length code)) ys n) e ∙ paste-none code ys (min s (length code))
+          ∙ sym (ap (λ (n : ℕ). paste code s ys n) e ∙ paste-none code ys s)
+    ]
 
 -- What is planned.
 
@@ -148,7 +151,7 @@ unfilled F u code (Some x) e h =
     let t = err-some (refuses (F .fields) (u .kind) (window-past o (u .place) (length code) - window-from o (u .place) (length code)) x) (field-refused-at (u .place)) x e (sym h) in
     let r : refuses (F .fields) (u .kind) (length (window-of o (u .place) code)) x ≡ Some (t .0) = ap (λ (n : ℕ). refuses (F .fields) (u .kind) n x) (window-length o (u .place) code) ∙ t .1 in
     sym (ap (λ (q : Option FieldRefusal). write-at (window-start o (u .place)) (unless q (F .patched (u .kind) (window-of o (u .place) code) x) (window-of o (u .place) code)) code) r
-      ∙ written-back o (u .place) code)
+    ∙ written-back o (u .place) code)
 
 placed : (o : Option FieldInfo) (at : ℕ) (code new : List ℕ) → length new ≡ window-past o at (length code) - window-from o at (length code) →
     putMid (window-from o at (length code)) (window-past o at (length code) - window-from o at (length code)) code new ≡ write-at (window-start o at) new code
@@ -165,10 +168,10 @@ fills-window F u code w d d′ from past new hp hd hf hq hl hn =
     let n : ℕ = length code in
     let t = planned-ok (F .fields) u code w d hp in
     let b : between from past code ≡ window-of o at code =
-        ap (λ (x : ℕ). between x past code) hf ∙ ap (λ (x : ℕ). between (window-from o at n) x code) hq ∙ window-is o at code in
+    ap (λ (x : ℕ). between x past code) hf ∙ ap (λ (x : ℕ). between (window-from o at n) x code) hq ∙ window-is o at code in
     let l : length new ≡ window-past o at n - window-from o at n = hl ∙ ap length b ∙ window-length o at code in
     let v : new ≡ after-patch F (u .kind) (window-of o at code) d =
-        hn ∙ ap (λ (x : ℤ). after-patch F (u .kind) (between from past code) x) hd ∙ ap (λ (x : List ℕ). after-patch F (u .kind) x d) b in
+    hn ∙ ap (λ (x : ℤ). after-patch F (u .kind) (between from past code) x) hd ∙ ap (λ (x : List ℕ). after-patch F (u .kind) x d) b in
     ap (λ (x : ℕ). putMid x (past - x) code new) hf ∙ ap (λ (x : ℕ). putMid (window-from o at n) (x - window-from o at n) code new) hq
     ∙ placed o at code new l
     ∙ ap (λ (x : List ℕ). write-at (window-start o at) x code) v

@@ -72,12 +72,19 @@ fn plan<F: FieldRead>(field: &Use, wanted: Option<i128>, len: usize) -> Result<i
 {
     let distance = at(field.place, wanted.ok_or(Reason::Unbound))?;
     let (from, past) = window::<F>(field.kind, field.place, len);
-    let near = at_field(field.place, checked_distance::<F>(field.kind, past - from, distance))?;
+    let near = at_field(
+        field.place,
+        checked_distance::<F>(field.kind, past - from, distance),
+    )?;
     Ok(near)
 }
 
 /// The same, by the family of the use's target.
-fn plan_use<L: FieldPatch, S: FieldPatch>(field: &Use, wanted: Option<i128>, len: usize) -> Result<i64, Refusal>
+fn plan_use<L: FieldPatch, S: FieldPatch>(
+    field: &Use,
+    wanted: Option<i128>,
+    len: usize,
+) -> Result<i64, Refusal>
     ensures { λ r. ⌜ r ≡ planned (family-for (family (L·FieldRead .fields) (L·FieldPatch .patched)) (family (S·FieldRead .fields) (S·FieldPatch .patched)) (now (field .entry) .target) .fields) (now (field .entry)) len wanted ⌝ }
 {
     match field.target {
@@ -87,7 +94,12 @@ fn plan_use<L: FieldPatch, S: FieldPatch>(field: &Use, wanted: Option<i128>, len
 }
 
 /// Checks every use, in their order, by the family of its target.
-fn check<L: FieldPatch, S: FieldPatch>(uses: &[Use], labels: &LabelBook, symbols: &[i64], code: &[u8]) -> Result<(), Refusal>
+fn check<L: FieldPatch, S: FieldPatch>(
+    uses: &[Use],
+    labels: &LabelBook,
+    symbols: &[i64],
+    code: &[u8],
+) -> Result<(), Refusal>
     ensures answers { λ r. ⌜ r ≡ answered (uses-refusal (family (L·FieldRead .fields) (L·FieldPatch .patched)) (family (S·FieldRead .fields) (S·FieldPatch .patched)) (place-of (labels-in (now (labels .entry))) (now (symbols .entry))) (now (code .entry)) (now (uses .entry))) tt ⌝ }
     ensures bytes { λ _. ⌜ Bytes (now (code .entry)) ⌝ }
 {
@@ -123,7 +135,12 @@ fn fill_use<L: FieldPatch, S: FieldPatch>(field: &Use, wanted: Option<i128>, cod
 }
 
 /// Fills the field of each use, in their order.
-fn fill<L: FieldPatch, S: FieldPatch>(uses: &[Use], labels: &LabelBook, symbols: &[i64], code: &mut [u8])
+fn fill<L: FieldPatch, S: FieldPatch>(
+    uses: &[Use],
+    labels: &LabelBook,
+    symbols: &[i64],
+    code: &mut [u8],
+)
     ensures { λ _. ⌜ now (code .exit) ≡ patched-all (family (L·FieldRead .fields) (L·FieldPatch .patched)) (family (S·FieldRead .fields) (S·FieldPatch .patched)) (place-of (labels-in (now (labels .entry))) (now (symbols .entry))) (now (code .entry)) (now (uses .entry)) ⌝ }
 {
     for field in uses {
@@ -134,7 +151,12 @@ fn fill<L: FieldPatch, S: FieldPatch>(uses: &[Use], labels: &LabelBook, symbols:
 
 /// Checks every use, in the order recorded, and then fills each with the distance from its instruction to its target. The answer is the first
 /// refusal, at the use's instruction; refused, the code stays as it is.
-pub fn settle<L: FieldPatch, S: FieldPatch>(uses: &[Use], labels: &LabelBook, symbols: &[i64], code: &mut [u8]) -> Result<(), Refusal>
+pub fn settle<L: FieldPatch, S: FieldPatch>(
+    uses: &[Use],
+    labels: &LabelBook,
+    symbols: &[i64],
+    code: &mut [u8],
+) -> Result<(), Refusal>
     ensures { λ r. ⌜ Settles (family (L·FieldRead .fields) (L·FieldPatch .patched)) (family (S·FieldRead .fields) (S·FieldPatch .patched)) (labels-in (now (labels .entry))) (now (symbols .entry)) (now (uses .entry)) (now (code .entry)) r (now (code .exit)) ⌝ }
 {
     check::<L, S>(uses, labels, symbols, code)?;

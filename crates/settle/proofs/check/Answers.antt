@@ -25,10 +25,10 @@ loop-field-again g c =
 pub returns-in-Break-plan-use : need.returns-in-Break-plan-use
 returns-in-Break-plan-use g c =
     let e : _≡_ {A = Answer} (Err (c .in-Break-plan-use .field-0 .0)) (answered (uses-refusal (family (g .L·FieldRead .fields) (g .L·FieldPatch .patched)) (family (g .S·FieldRead .fields) (g .S·FieldPatch .patched)) (place-of (labels-in (c .args .labels .now)) (c .args .symbols .now)) (c .args .code .now) (c .args .uses .now)) tt) =
-        checked-stop (family (g .L·FieldRead .fields) (g .L·FieldPatch .patched)) (family (g .S·FieldRead .fields) (g .S·FieldPatch .patched))
-        (place-of (labels-in (c .args .labels .now)) (c .args .symbols .now)) (c .args .code .now) (c .args .uses .now) (c .loop-field .field-index)
-        (c .loop-field-test .taken) (c .loop-field .inv) (c .distance-of-wanted .result) (c .distance-of-wanted .ensures) (c .in-Break-plan-use .field-0 .0)
-        (sym (c .in-Break-plan-use .was tt) ∙ c .plan-use .ensures) in
+    checked-stop (family (g .L·FieldRead .fields) (g .L·FieldPatch .patched)) (family (g .S·FieldRead .fields) (g .S·FieldPatch .patched))
+    (place-of (labels-in (c .args .labels .now)) (c .args .symbols .now)) (c .args .code .now) (c .args .uses .now) (c .loop-field .field-index)
+    (c .loop-field-test .taken) (c .loop-field .inv) (c .distance-of-wanted .result) (c .distance-of-wanted .ensures) (c .in-Break-plan-use .field-0 .0)
+    (sym (c .in-Break-plan-use .was tt) ∙ c .plan-use .ensures) in
     record { answers = search needs; bytes = all-from-getD (λ b. b < 256) (c .args .code .now) 0 (λ i h. let f : Fits w8 (getD (c .args .code .now) i 0) = c .typed .code i in omega arith) }
 
 pub returns : need.returns

@@ -26,7 +26,7 @@ returns-then-not-aligned g c =
     let r : _≡_ {A = Option ℤ} (Some near) (cond (ltZ d least || ltZ greatest d) None (Some d)) = simp toZ-ofZ at (c .in-Some .ensures tt) in
     let m : multiple (g .F·FieldRead .fields .align) near ≡ false = sym (simp toZ-ofZ at (c .if-not-aligned .ensures tt)) in
     reached-odd (g .F·FieldRead .fields .align) (c .args .given) d near (c .in-Continue-size .size) least greatest (g .F·FieldRead .fields .table (c .args .kind))
-      (c .in-Continue-size .ensures tt) (c .in-Continue-least .ensures tt) (c .in-Continue-greatest .ensures tt) (search needs) r m
+    (c .in-Continue-size .ensures tt) (c .in-Continue-least .ensures tt) (c .in-Continue-greatest .ensures tt) (search needs) r m
 
 pub returns : need.returns
 returns g c =
@@ -42,4 +42,4 @@ returns g c =
     let m : multiple (g .F·FieldRead .fields .align) near ≡ true = sym (simp toZ-ofZ at (c .if-not-aligned .ensures tt)) in
     simp toZ-ofZ
     (reached-ok (g .F·FieldRead .fields .align) (c .args .given) d near (c .in-Continue-size .size) least greatest (g .F·FieldRead .fields .table (c .args .kind))
-      (c .in-Continue-size .ensures tt) (c .in-Continue-least .ensures tt) (c .in-Continue-greatest .ensures tt) (search needs) r m)
+    (c .in-Continue-size .ensures tt) (c .in-Continue-least .ensures tt) (c .in-Continue-greatest .ensures tt) (search needs) r m)
