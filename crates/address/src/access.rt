@@ -1,6 +1,8 @@
 ghost use mathlib.Core.Path.{_≡_};
+ghost use Prim.Native.Nat.{_≤_};
+ghost use Rattle.address.specs.Aimed.{size-of-all};
 ghost use Rattle.address.specs.Access.{permitted, opcodes, entry-for};
-ghost use Rattle.address.specs.Held.{listed, all-listed};
+ghost use Rattle.address.specs.Held.{listed, all-listed, items-of};
 use crate::args::MemInstType;
 use book::target::Target;
 use form::Form;
@@ -135,4 +137,24 @@ pub struct AccessPlan {
     pub first: Option<Aimed>,
     pub second: Option<Aimed>,
     pub access: Aimed,
+}
+
+// How many bytes an instruction has, if there is one.
+fn size_of(item: Option<Aimed>) -> usize
+    ensures is { λ r. ⌜ r ≡ size-of-all (listed item) ⌝ }
+    ensures small { λ r. ⌜ r ≤ 6 ⌝ }
+{
+    match item {
+        Some(item) => item.instr.form.size(),
+        None => 0,
+    }
+}
+
+impl AccessPlan {
+    /// How many bytes it writes.
+    pub fn size(&self) -> usize
+        ensures { λ r. ⌜ r ≡ size-of-all (items-of (now (self .entry))) ⌝ }
+    {
+        size_of(self.first) + size_of(self.second) + size_of(Some(self.access))
+    }
 }
