@@ -1,22 +1,23 @@
 -- What an accepted distance gives to the call that writes it.
 use Prim.Native.Nat.{ℕ, _%_, _≤_}
 use mathlib.Core.Path.{_≡_, refl, sym, ap, subst, _∙_}
-use mathlib.Core.Bool.{false}
+use mathlib.Core.Bool.{true, false}
 use mathlib.Core.List.{List}
 use native.Mathlib.Omega.{arith}
 use lib.IntN.{ℤ, natAbs}
 use lib.ListN.{length}
 use lib.Signed.{ltZ, _≤ℤ_}
 use Rattle.std.proofs.shelf.Signed.{ints}
-use Rattle.std.proofs.shelf.Tests.{eqb-true}
+use Rattle.std.proofs.shelf.Tests.{eqb-true, both-ways}
 use Rattle.std.specs.declared.option.Option.{Option}
 use Rattle.std.specs.declared.option.Option.the-variants.{Some, None}
 use Rattle.std.specs.declared.result.Result.{Result}
 use Rattle.std.specs.declared.result.Result.the-variants.{Ok}
+use Rattle.std.specs.Results.{isErr}
 use Rattle.refusal.specs.Refusals.{answered, unless}
 use Rattle.field.specs.declared.verdict.FieldRefusal.{FieldRefusal}
-use Rattle.field.specs.Family.{FieldInfo, Fields, Family, refuses, refuses-by, after-patch}
-use Rattle.field.proofs.Laws.{accepted}
+use Rattle.field.specs.Family.{FieldInfo, Fields, Family, held, held-by, refuses, refuses-by, after-patch, overwritten}
+use Rattle.field.proofs.Laws.{accepted, Fits, overwritten-held}
 
 not-below : (a b : ℤ) → ltZ a b ≡ false → b ≤ℤ a
 not-below a b h = grind (arith, ints)
@@ -47,3 +48,15 @@ module _ (F : Family) (k : ℕ) (bytes : List ℕ) (d x : ℤ) (h : _≡_ {A = R
 
   pub leaves : (new : List ℕ) → new ≡ F .patched k bytes d → new ≡ after-patch F k bytes d
   leaves new e = e ∙ sym (ap (λ (o : Option FieldRefusal). unless o (F .patched k bytes d) bytes) passed)
+
+-- what is overwritten is read back
+pub reads-back : (table : ℕ → Option FieldInfo) (k : ℕ) (i : FieldInfo) (bytes : List ℕ) (d : ℤ) → table k ≡ Some i → Fits 2 i → refuses (record { align = 2; table = table }) k (length bytes) d ≡ None
+    → (new : List ℕ) → new ≡ overwritten 2 (table k) bytes d → held (record { align = 2; table = table }) k new ≡ Ok d
+reads-back table k i bytes d t fit none new e =
+    let r : refuses-by 2 (Some i) (length bytes) d ≡ None = subst (λ (o : Option FieldInfo). refuses-by 2 o (length bytes) d ≡ None) t none in
+    ap (held (record { align = 2; table = table }) k) e
+    ∙ ap (λ (o : Option FieldInfo). held-by 2 o (overwritten 2 o bytes d)) t
+    ∙ overwritten-held 2 i d bytes (omega arith) fit (accepted 2 i (length bytes) d r)
+
+pub not-accepted : {P : Type 0} (r : Result (Unit {0}) FieldRefusal) → isErr r ≡ true → r ≡ Ok tt → P
+not-accepted r e h = absurd (both-ways (isErr r) (ap isErr h) e)

@@ -57,17 +57,13 @@ fn labels(rt: LibcRuntime) -> Result<(), Fail> {
     let Ok(mut labels) = reserved(rt.alloc(), 3) else {
         return Err(Fail::new("memory"));
     };
-    check(
-        bind(&mut labels, 1, 6) == 0 && bind(&mut labels, 1, 8) == 12 && place(&labels, 1) == 6,
-    )?;
+    check(bind(&mut labels, 1, 6) == 0 && bind(&mut labels, 1, 8) == 12 && place(&labels, 1) == 6)?;
     give_up(&mut labels, 1);
     give_up(&mut labels, 2);
     give_up(&mut labels, 3);
     check(place(&labels, 0) == 1000 && place(&labels, 1) == 6 && place(&labels, 2) == 2000)?;
     check(
-        bind(&mut labels, 2, 8) == 12
-            && bind(&mut labels, 3, 8) == 12
-            && place(&labels, 3) == 2000,
+        bind(&mut labels, 2, 8) == 12 && bind(&mut labels, 3, 8) == 12 && place(&labels, 3) == 2000,
     )
 }
 
