@@ -1,23 +1,22 @@
 -- What an accepted distance gives to the call that writes it.
 use Prim.Native.Nat.{ℕ, _%_, _≤_}
 use mathlib.Core.Path.{_≡_, refl, sym, ap, subst, _∙_}
-use mathlib.Core.Bool.{true, false}
+use mathlib.Core.Bool.{false}
 use mathlib.Core.List.{List}
 use native.Mathlib.Omega.{arith}
 use lib.IntN.{ℤ, natAbs}
 use lib.ListN.{length}
 use lib.Signed.{ltZ, _≤ℤ_}
 use Rattle.std.proofs.shelf.Signed.{ints}
-use Rattle.std.proofs.shelf.Tests.{eqb-true, both-ways}
+use Rattle.std.proofs.shelf.Tests.{eqb-true}
 use Rattle.std.specs.declared.option.Option.{Option}
 use Rattle.std.specs.declared.option.Option.the-variants.{Some, None}
 use Rattle.std.specs.declared.result.Result.{Result}
 use Rattle.std.specs.declared.result.Result.the-variants.{Ok}
-use Rattle.std.specs.Results.{isErr}
 use Rattle.refusal.specs.Refusals.{answered, unless}
 use Rattle.field.specs.declared.verdict.FieldRefusal.{FieldRefusal}
-use Rattle.field.specs.Family.{FieldInfo, Fields, Family, held, held-by, refuses, refuses-by, after-patch, overwritten}
-use Rattle.field.proofs.Laws.{accepted, Fits, overwritten-held}
+use Rattle.field.specs.Family.{FieldInfo, Fields, Family, refuses, refuses-by, after-patch}
+use Rattle.field.proofs.Laws.{accepted, passed-none}
 
 not-below : (a b : ℤ) → ltZ a b ≡ false → b ≤ℤ a
 not-below a b h = grind (arith, ints)
@@ -28,13 +27,9 @@ pub record Ready (i : FieldInfo) (n : ℕ) (d : ℤ) : Type 0 where
   pub high : d ≤ℤ i .greatest
   pub even : natAbs d % 2 ≡ 0
 
-none-refused : {X : Type 0} (o : Option FieldRefusal) (x y : X) → _≡_ {A = Result X FieldRefusal} (Ok x) (answered o y) → o ≡ None
-none-refused None x y h = refl
-none-refused (Some e) x y h = let z : _≡_ {A = ℕ} 0 1 = cc in absurd (omega arith)
-
 module _ (F : Family) (k : ℕ) (bytes : List ℕ) (d x : ℤ) (h : _≡_ {A = Result ℤ FieldRefusal} (Ok x) (answered (refuses (F .fields) k (length bytes) d) d)) where
   pub passed : refuses (F .fields) k (length bytes) d ≡ None
-  passed = none-refused (refuses (F .fields) k (length bytes) d) x d h
+  passed = passed-none (refuses (F .fields) k (length bytes) d) x d h
 
   pub ready : F .fields .align ≡ 2 → (i : FieldInfo) → F .fields .table k ≡ Some i → Ready i (length bytes) d
   ready two i t =
@@ -48,15 +43,3 @@ module _ (F : Family) (k : ℕ) (bytes : List ℕ) (d x : ℤ) (h : _≡_ {A = R
 
   pub leaves : (new : List ℕ) → new ≡ F .patched k bytes d → new ≡ after-patch F k bytes d
   leaves new e = e ∙ sym (ap (λ (o : Option FieldRefusal). unless o (F .patched k bytes d) bytes) passed)
-
--- what is overwritten is read back
-pub reads-back : (table : ℕ → Option FieldInfo) (k : ℕ) (i : FieldInfo) (bytes : List ℕ) (d : ℤ) → table k ≡ Some i → Fits 2 i → refuses (record { align = 2; table = table }) k (length bytes) d ≡ None
-    → (new : List ℕ) → new ≡ overwritten 2 (table k) bytes d → held (record { align = 2; table = table }) k new ≡ Ok d
-reads-back table k i bytes d t fit none new e =
-    let r : refuses-by 2 (Some i) (length bytes) d ≡ None = subst (λ (o : Option FieldInfo). refuses-by 2 o (length bytes) d ≡ None) t none in
-    ap (held (record { align = 2; table = table }) k) e
-    ∙ ap (λ (o : Option FieldInfo). held-by 2 o (overwritten 2 o bytes d)) t
-    ∙ overwritten-held 2 i d bytes (omega arith) fit (accepted 2 i (length bytes) d r)
-
-pub not-accepted : {P : Type 0} (r : Result (Unit {0}) FieldRefusal) → isErr r ≡ true → r ≡ Ok tt → P
-not-accepted r e h = absurd (both-ways (isErr r) (ap isErr h) e)

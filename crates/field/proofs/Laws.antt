@@ -16,11 +16,12 @@ use Rattle.std.specs.declared.option.Option.{Option}
 use Rattle.std.specs.declared.option.Option.the-variants.{Some, None}
 use Rattle.std.specs.declared.result.Result.{Result}
 use Rattle.std.specs.declared.result.Result.the-variants.{Ok, Err}
+use Rattle.std.specs.Results.{isErr}
 use Rattle.refusal.specs.Refusals.{answered, unless}
 use Rattle.refusal.specs.Numbers.{signed, wrap, big-endian, bytes-of-number}
 use Rattle.field.specs.declared.verdict.FieldRefusal.{FieldRefusal}
 use Rattle.field.specs.declared.verdict.FieldRefusal.the-variants.{Kind, Far, Odd}
-use Rattle.field.specs.Family.{_when_, first-refused, FieldInfo, family, field-bytes, field-value, held-by, multiple, refuses-by, Shape, Patches, Lawful, overwritten}
+use Rattle.field.specs.Family.{_when_, first-refused, FieldInfo, family, field-bytes, field-value, held, held-by, multiple, refuses, refuses-by, Shape, Patches, Lawful, overwritten}
 use Rattle.field.proofs.Numbers.{held-back}
 
 pub never-none : {X P : Type 0} (x : X) → _≡_ {A = Option X} (Some x) None → P
@@ -133,7 +134,7 @@ overwrites a i d bytes one fit k ok =
     }
 
 -- A family reads back what overwriting has left.
-pub overwritten-held : (a : ℕ) (i : FieldInfo) (d : ℤ) (bytes : List ℕ) → 1 ≤ a → Fits a i → Accepted a i (length bytes) d → held-by a (Some i) (overwritten a (Some i) bytes d) ≡ Ok d
+overwritten-held : (a : ℕ) (i : FieldInfo) (d : ℤ) (bytes : List ℕ) → 1 ≤ a → Fits a i → Accepted a i (length bytes) d → held-by a (Some i) (overwritten a (Some i) bytes d) ≡ Ok d
 overwritten-held a i d bytes one fit ok =
     let o = over a i d bytes one fit ok in
     let e = o .same-length in
@@ -151,7 +152,24 @@ overwriting a table one fits =
           (overwrites a i d bytes one (fits k i e) bs (accepted a i (length bytes) d (subst (λ (o : Option FieldInfo). refuses-by a o (length bytes) d ≡ None) e ok)));
     }
 
--- A patch whose verdict is a refusal.
+-- It reads back what it has written.
+pub overwriting-held : (a : ℕ) (table : ℕ → Option FieldInfo) (k : ℕ) (i : FieldInfo) (bytes : List ℕ) (d : ℤ) → 1 ≤ a → table k ≡ Some i → Fits a i → refuses (record { align = a; table = table }) k (length bytes) d ≡ None
+    → (new : List ℕ) → new ≡ overwritten a (table k) bytes d → held (record { align = a; table = table }) k new ≡ Ok d
+overwriting-held a table k i bytes d one t fit none new e =
+    let r : refuses-by a (Some i) (length bytes) d ≡ None = subst (λ (o : Option FieldInfo). refuses-by a o (length bytes) d ≡ None) t none in
+    ap (held (record { align = a; table = table }) k) e
+    ∙ ap (λ (o : Option FieldInfo). held-by a o (overwritten a o bytes d)) t
+    ∙ overwritten-held a i d bytes one fit (accepted a i (length bytes) d r)
+
+-- A patch whose verdict is no refusal, or one.
+
+pub passed-none : {X : Type 0} (o : Option FieldRefusal) (x y : X) → _≡_ {A = Result X FieldRefusal} (Ok x) (answered o y) → o ≡ None
+passed-none None x y h = refl
+passed-none (Some e) x y h = let z : _≡_ {A = ℕ} 0 1 = cc in absurd (omega arith)
+
+pub not-accepted : {P : Type 0} (r : Result (Unit {0}) FieldRefusal) → isErr r ≡ true → r ≡ Ok tt → P
+not-accepted r e h = absurd (both-ways (isErr r) (ap isErr h) e)
+
 module _ (o : Option FieldRefusal) {X : Type 0} (x : X) (e : FieldRefusal) (h : _≡_ {A = Result X FieldRefusal} (Err e) (answered o x)) where
   pub refused-some : o ≡ Some e
   refused-some = go o h

@@ -13,9 +13,9 @@ use Rattle.std.proofs.shelf.Signed.{ints, toZ-ofZ}
 use Rattle.refusal.specs.Refusals.{answered}
 use Rattle.field.specs.declared.verdict.FieldRefusal.{FieldRefusal}
 use Rattle.field.specs.Family.{label-table, label-family, refuses}
-use Rattle.field.proofs.Laws.{refused-answer, refused-leaves}
+use Rattle.field.proofs.Laws.{overwriting-held, not-accepted, refused-answer, refused-leaves}
 use Rattle.families.proofs.Families.{label-short, label-long, label-short-fits, label-long-fits}
-use Rattle.families.proofs.Ready.{ready, passed, answers, leaves, reads-back, not-accepted}
+use Rattle.families.proofs.Ready.{ready, passed, answers, leaves}
 use Rattle.families.proofs.labels.LabelsPatch.patch.Needs as need
 
 pub returns-in-Break-checked-distance : need.returns-in-Break-checked-distance
@@ -49,7 +49,7 @@ returns-in-1 c =
     record {
       answers = answers label-family k bytes d (c .in-Continue-checked-distance .field-0) h;
       leaves = leaves label-family k bytes d (c .in-Continue-checked-distance .field-0) h (c .put-half .last .bytes) done;
-      holds = λ _ _. reads-back label-table k label-short bytes d (ap label-table (c .in-1 .is)) label-short-fits (passed label-family k bytes d (c .in-Continue-checked-distance .field-0) h) (c .put-half .last .bytes) done;
+      holds = λ _ _. overwriting-held 2 label-table k label-short bytes d (omega arith) (ap label-table (c .in-1 .is)) label-short-fits (passed label-family k bytes d (c .in-Continue-checked-distance .field-0) h) (c .put-half .last .bytes) done;
     }
 
 pub put-word-requires : need.put-word-requires
@@ -73,5 +73,5 @@ returns-in-2 c =
     record {
       answers = answers label-family k bytes d (c .in-Continue-checked-distance .field-0) h;
       leaves = leaves label-family k bytes d (c .in-Continue-checked-distance .field-0) h (c .put-word .last .bytes) done;
-      holds = λ _ _. reads-back label-table k label-long bytes d (ap label-table (c .in-2 .is)) label-long-fits (passed label-family k bytes d (c .in-Continue-checked-distance .field-0) h) (c .put-word .last .bytes) done;
+      holds = λ _ _. overwriting-held 2 label-table k label-long bytes d (omega arith) (ap label-table (c .in-2 .is)) label-long-fits (passed label-family k bytes d (c .in-Continue-checked-distance .field-0) h) (c .put-word .last .bytes) done;
     }

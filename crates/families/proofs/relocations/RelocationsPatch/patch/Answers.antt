@@ -13,9 +13,9 @@ use Rattle.std.proofs.shelf.Signed.{ints, toZ-ofZ}
 use Rattle.refusal.specs.Refusals.{answered}
 use Rattle.field.specs.declared.verdict.FieldRefusal.{FieldRefusal}
 use Rattle.field.specs.Family.{relocation-table, relocation-family, refuses}
-use Rattle.field.proofs.Laws.{refused-answer, refused-leaves}
+use Rattle.field.proofs.Laws.{overwriting-held, not-accepted, refused-answer, refused-leaves}
 use Rattle.families.proofs.Families.{relocation-short, relocation-long, relocation-short-fits, relocation-long-fits}
-use Rattle.families.proofs.Ready.{ready, passed, answers, leaves, reads-back, not-accepted}
+use Rattle.families.proofs.Ready.{ready, passed, answers, leaves}
 use Rattle.families.proofs.relocations.RelocationsPatch.patch.Needs as need
 
 pub returns-in-Break-checked-distance : need.returns-in-Break-checked-distance
@@ -49,7 +49,7 @@ returns-in-1 c =
     record {
       answers = answers relocation-family k bytes d (c .in-Continue-checked-distance .field-0) h;
       leaves = leaves relocation-family k bytes d (c .in-Continue-checked-distance .field-0) h (c .put-half .last .bytes) done;
-      holds = λ _ _. reads-back relocation-table k relocation-short bytes d (ap relocation-table (c .in-1 .is)) relocation-short-fits (passed relocation-family k bytes d (c .in-Continue-checked-distance .field-0) h) (c .put-half .last .bytes) done;
+      holds = λ _ _. overwriting-held 2 relocation-table k relocation-short bytes d (omega arith) (ap relocation-table (c .in-1 .is)) relocation-short-fits (passed relocation-family k bytes d (c .in-Continue-checked-distance .field-0) h) (c .put-half .last .bytes) done;
     }
 
 pub put-word-requires : need.put-word-requires
@@ -73,5 +73,5 @@ returns-in-2 c =
     record {
       answers = answers relocation-family k bytes d (c .in-Continue-checked-distance .field-0) h;
       leaves = leaves relocation-family k bytes d (c .in-Continue-checked-distance .field-0) h (c .put-word .last .bytes) done;
-      holds = λ _ _. reads-back relocation-table k relocation-long bytes d (ap relocation-table (c .in-2 .is)) relocation-long-fits (passed relocation-family k bytes d (c .in-Continue-checked-distance .field-0) h) (c .put-word .last .bytes) done;
+      holds = λ _ _. overwriting-held 2 relocation-table k relocation-long bytes d (omega arith) (ap relocation-table (c .in-2 .is)) relocation-long-fits (passed relocation-family k bytes d (c .in-Continue-checked-distance .field-0) h) (c .put-word .last .bytes) done;
     }
