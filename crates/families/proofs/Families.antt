@@ -30,11 +30,23 @@ relocation-short = record { lead = 2; size = 2; first = 0; past = 2; least = neg
 abbrev pub relocation-long : FieldInfo
 relocation-long = record { lead = 2; size = 4; first = 0; past = 4; least = negℤ (pos 4294967296); greatest = pos 4294967294 }
 
+pub label-short-fits : Fits 2 label-short
+label-short-fits = omega arith
+
+pub label-long-fits : Fits 2 label-long
+label-long-fits = omega arith
+
 pub label-lawful : Lawful label-family
-label-lawful = overwriting 2 label-table (omega arith) (two-fit 2 label-short label-long (omega arith) (omega arith))
+label-lawful = overwriting 2 label-table (omega arith) (two-fit 2 label-short label-long label-short-fits label-long-fits)
+
+pub relocation-short-fits : Fits 2 relocation-short
+relocation-short-fits = omega arith
+
+pub relocation-long-fits : Fits 2 relocation-long
+relocation-long-fits = omega arith
 
 pub relocation-lawful : Lawful relocation-family
-relocation-lawful = overwriting 2 relocation-table (omega arith) (two-fit 2 relocation-short relocation-long (omega arith) (omega arith))
+relocation-lawful = overwriting 2 relocation-table (omega arith) (two-fit 2 relocation-short relocation-long relocation-short-fits relocation-long-fits)
 
 pub both-serve : (serves (label-family .fields) ≡ true) × (serves (relocation-family .fields) ≡ true)
 both-serve = (refl, refl)

@@ -16,7 +16,7 @@ use Rattle.std.specs.declared.result.Result.the-variants.{Ok}
 use Rattle.refusal.specs.Refusals.{answered, unless}
 use Rattle.field.specs.declared.verdict.FieldRefusal.{FieldRefusal}
 use Rattle.field.specs.Family.{FieldInfo, Fields, Family, refuses, refuses-by, after-patch}
-use Rattle.field.proofs.Laws.{accepted}
+use Rattle.field.proofs.Laws.{accepted, passed-none}
 
 not-below : (a b : ℤ) → ltZ a b ≡ false → b ≤ℤ a
 not-below a b h = grind (arith, ints)
@@ -27,13 +27,9 @@ pub record Ready (i : FieldInfo) (n : ℕ) (d : ℤ) : Type 0 where
   pub high : d ≤ℤ i .greatest
   pub even : natAbs d % 2 ≡ 0
 
-none-refused : {X : Type 0} (o : Option FieldRefusal) (x y : X) → _≡_ {A = Result X FieldRefusal} (Ok x) (answered o y) → o ≡ None
-none-refused None x y h = refl
-none-refused (Some e) x y h = let z : _≡_ {A = ℕ} 0 1 = cc in absurd (omega arith)
-
 module _ (F : Family) (k : ℕ) (bytes : List ℕ) (d x : ℤ) (h : _≡_ {A = Result ℤ FieldRefusal} (Ok x) (answered (refuses (F .fields) k (length bytes) d) d)) where
   pub passed : refuses (F .fields) k (length bytes) d ≡ None
-  passed = none-refused (refuses (F .fields) k (length bytes) d) x d h
+  passed = passed-none (refuses (F .fields) k (length bytes) d) x d h
 
   pub ready : F .fields .align ≡ 2 → (i : FieldInfo) → F .fields .table k ≡ Some i → Ready i (length bytes) d
   ready two i t =

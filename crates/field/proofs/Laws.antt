@@ -11,16 +11,17 @@ use lib.Seq.{take-at, drop-at, length-take-le}
 use lib.Signed.{mag, ltZ, shrZ}
 use Rattle.std.specs.shelf.Lists.{All}
 use Rattle.std.proofs.shelf.Elements.{all-append, all-take, all-drop}
-use Rattle.std.proofs.shelf.Tests.{both-ways, or-parts, not-false, ltb-false}
+use Rattle.std.proofs.shelf.Tests.{both-ways, or-parts, not-false, ltb-false, le-ltb}
 use Rattle.std.specs.declared.option.Option.{Option}
 use Rattle.std.specs.declared.option.Option.the-variants.{Some, None}
 use Rattle.std.specs.declared.result.Result.{Result}
 use Rattle.std.specs.declared.result.Result.the-variants.{Ok, Err}
+use Rattle.std.specs.Results.{isErr}
 use Rattle.refusal.specs.Refusals.{answered, unless}
 use Rattle.refusal.specs.Numbers.{signed, wrap, big-endian, bytes-of-number}
 use Rattle.field.specs.declared.verdict.FieldRefusal.{FieldRefusal}
 use Rattle.field.specs.declared.verdict.FieldRefusal.the-variants.{Kind, Far, Odd}
-use Rattle.field.specs.Family.{_when_, first-refused, FieldInfo, family, field-bytes, multiple, refuses-by, Shape, Patches, Lawful, overwritten}
+use Rattle.field.specs.Family.{_when_, first-refused, FieldInfo, family, field-bytes, field-value, held, held-by, multiple, refuses, refuses-by, Shape, Patches, Lawful, overwritten}
 use Rattle.field.proofs.Numbers.{held-back}
 
 pub never-none : {X P : Type 0} (x : X) → _≡_ {A = Option X} (Some x) None → P
@@ -73,14 +74,20 @@ pub record Fits (a : ℕ) (i : FieldInfo) : Type 0 where
   pub low : mag (i .least) < 2 ^ (8 * (i .past - i .first) - 1) * a
   pub high : mag (i .greatest) < 2 ^ (8 * (i .past - i .first) - 1) * a
 
-pub overwrites : (a : ℕ) (i : FieldInfo) (d : ℤ) (bytes : List ℕ) → 1 ≤ a → Fits a i → All (λ b. b < 256) bytes → Accepted a i (length bytes) d → Patches a i d bytes (overwritten a (Some i) bytes d)
-overwrites a i d bytes one fit k ok =
+-- what overwriting a field does, whatever was in it
+record Over (a : ℕ) (i : FieldInfo) (d : ℤ) (old new : List ℕ) : Type 0 where
+  same-length : length new ≡ length old
+  before : take (i .first) new ≡ take (i .first) old
+  after : drop (i .past) new ≡ drop (i .past) old
+  value : pos a *ℤ field-value i new ≡ d
+
+over : (a : ℕ) (i : FieldInfo) (d : ℤ) (bytes : List ℕ) → 1 ≤ a → Fits a i → Accepted a i (length bytes) d → Over a i d bytes (overwritten a (Some i) bytes d)
+over a i d bytes one fit ok =
     record {
       same-length = let x = front-length in let y = num-length in simp (length-append, length-drop) (omega arith);
       before = ap (take (i .first)) whole ∙ take-at (take (i .first) bytes) (num ++ drop (i .past) bytes) (i .first) front-length;
       after = drop-at (take (i .first) bytes ++ num) (drop (i .past) bytes) (i .past) (length-append (take (i .first) bytes) num ∙ let x = front-length in let y = num-length in omega arith);
-      bytes = all-append (λ b. b < 256) (take (i .first) bytes ++ num) (drop (i .past) bytes) (all-append (λ b. b < 256) (take (i .first) bytes) num (all-take (λ b. b < 256) (i .first) bytes k) (number-bytes (i .past - i .first) v)) (all-drop (λ b. b < 256) (i .past) bytes k);
-      holds = λ z. ap (λ (x : List ℕ). pos a *ℤ signed (8 * (i .past - i .first)) (big-endian 0 x)) field ∙ held-back a (i .past - i .first) d one (let s = fit .some in omega arith) small (ok .even);
+      value = ap (λ (x : List ℕ). pos a *ℤ signed (8 * (i .past - i .first)) (big-endian 0 x)) field ∙ held-back a (i .past - i .first) d one (let s = fit .some in omega arith) small (ok .even);
     }
   where
     v : ℕ
@@ -110,6 +117,31 @@ overwrites a i d bytes one fit k ok =
         ∙ ap (take (i .past - i .first)) (drop-at (take (i .first) bytes) (num ++ drop (i .past) bytes) (i .first) front-length)
         ∙ take-at num (drop (i .past) bytes) (i .past - i .first) num-length
 
+overwrites : (a : ℕ) (i : FieldInfo) (d : ℤ) (bytes : List ℕ) → 1 ≤ a → Fits a i → All (λ b. b < 256) bytes → Accepted a i (length bytes) d → Patches a i d bytes (overwritten a (Some i) bytes d)
+overwrites a i d bytes one fit k ok =
+    let o = over a i d bytes one fit ok in
+    let n : ℕ = i .past - i .first in
+    let num : List ℕ = bytes-of-number n (wrap (8 * n) (shrZ d a)) in
+    record {
+      same-length = o .same-length;
+      before = o .before;
+      after = o .after;
+      bytes =
+          all-append (λ b. b < 256) (take (i .first) bytes ++ num) (drop (i .past) bytes)
+          (all-append (λ b. b < 256) (take (i .first) bytes) num (all-take (λ b. b < 256) (i .first) bytes k) (number-bytes n (wrap (8 * n) (shrZ d a))))
+          (all-drop (λ b. b < 256) (i .past) bytes k);
+      holds = λ z. o .value;
+    }
+
+-- A family reads back what overwriting has left.
+overwritten-held : (a : ℕ) (i : FieldInfo) (d : ℤ) (bytes : List ℕ) → 1 ≤ a → Fits a i → Accepted a i (length bytes) d → held-by a (Some i) (overwritten a (Some i) bytes d) ≡ Ok d
+overwritten-held a i d bytes one fit ok =
+    let o = over a i d bytes one fit ok in
+    let e = o .same-length in
+    let w = ok .enough in
+    let b : ltb (length (overwritten a (Some i) bytes d)) (i .size) ≡ false = le-ltb (length (overwritten a (Some i) bytes d)) (i .size) (omega arith) in
+    rw b (ap Ok (o .value))
+
 -- A family that overwrites its fields.
 pub overwriting : (a : ℕ) (table : ℕ → Option FieldInfo) → 1 ≤ a → ((k : ℕ) (i : FieldInfo) → table k ≡ Some i → Fits a i) → Lawful (family (record { align = a; table = table }) (λ k. overwritten a (table k)))
 overwriting a table one fits =
@@ -120,7 +152,24 @@ overwriting a table one fits =
           (overwrites a i d bytes one (fits k i e) bs (accepted a i (length bytes) d (subst (λ (o : Option FieldInfo). refuses-by a o (length bytes) d ≡ None) e ok)));
     }
 
--- A patch whose verdict is a refusal.
+-- It reads back what it has written.
+pub overwriting-held : (a : ℕ) (table : ℕ → Option FieldInfo) (k : ℕ) (i : FieldInfo) (bytes : List ℕ) (d : ℤ) → 1 ≤ a → table k ≡ Some i → Fits a i → refuses (record { align = a; table = table }) k (length bytes) d ≡ None
+    → (new : List ℕ) → new ≡ overwritten a (table k) bytes d → held (record { align = a; table = table }) k new ≡ Ok d
+overwriting-held a table k i bytes d one t fit none new e =
+    let r : refuses-by a (Some i) (length bytes) d ≡ None = subst (λ (o : Option FieldInfo). refuses-by a o (length bytes) d ≡ None) t none in
+    ap (held (record { align = a; table = table }) k) e
+    ∙ ap (λ (o : Option FieldInfo). held-by a o (overwritten a o bytes d)) t
+    ∙ overwritten-held a i d bytes one fit (accepted a i (length bytes) d r)
+
+-- A patch whose verdict is no refusal, or one.
+
+pub passed-none : {X : Type 0} (o : Option FieldRefusal) (x y : X) → _≡_ {A = Result X FieldRefusal} (Ok x) (answered o y) → o ≡ None
+passed-none None x y h = refl
+passed-none (Some e) x y h = let z : _≡_ {A = ℕ} 0 1 = cc in absurd (omega arith)
+
+pub not-accepted : {P : Type 0} (r : Result (Unit {0}) FieldRefusal) → isErr r ≡ true → r ≡ Ok tt → P
+not-accepted r e h = absurd (both-ways (isErr r) (ap isErr h) e)
+
 module _ (o : Option FieldRefusal) {X : Type 0} (x : X) (e : FieldRefusal) (h : _≡_ {A = Result X FieldRefusal} (Err e) (answered o x)) where
   pub refused-some : o ≡ Some e
   refused-some = go o h

@@ -82,6 +82,11 @@ abbrev pub told : {X : Type 0} → (FieldInfo → X) → Option FieldInfo → Re
 told answer None = Err Kind
 told answer (Some i) = Ok (answer i)
 
+-- the field of a kind is zero in these bytes
+abbrev pub Zero-field : Option FieldInfo → List ℕ → Type 0
+Zero-field None bytes = Unit {0}
+Zero-field (Some i) bytes = big-endian 0 (field-bytes i bytes) ≡ 0
+
 -- Patching.
 
 abbrev pub multiple : ℕ → ℤ → Bool

@@ -3,8 +3,9 @@ ghost use Prim.Native.Nat.{ℕ};
 ghost use mathlib.Core.List.{List};
 ghost use lib.IntN.{ℤ, pos};
 ghost use lib.ListN.{length};
+ghost use Rattle.std.specs.declared.result.Result.the-variants.{Ok};
 ghost use Rattle.refusal.specs.Refusals.{answered};
-ghost use Rattle.field.specs.Family.{Fields, LawfulFields, Lawful, family, told, held as heldIn, refuses, after-patch};
+ghost use Rattle.field.specs.Family.{Fields, LawfulFields, Lawful, family, told, held as heldIn, Zero-field, refuses, after-patch};
 use crate::verdict::FieldRefusal;
 
 /// What a family of fields tells. The bytes that it is given are its own: `size` of them, from `lead` bytes into the instruction on.
@@ -55,5 +56,6 @@ pub trait FieldPatch: FieldRead {
     /// then holds the distance; what becomes of one that was not zero is each family's own, a function of kind, bytes and distance.
     fn patch(kind: u8, bytes: &mut [u8], distance: i64) -> Result<(), FieldRefusal>
         ensures answers { λ r. ⌜ r ≡ answered (refuses (Self·FieldRead .fields) kind (length (now (bytes .entry))) distance) tt ⌝ }
-        ensures leaves { λ _. ⌜ now (bytes .exit) ≡ after-patch (family (Self·FieldRead .fields) patched) kind (now (bytes .entry)) distance ⌝ };
+        ensures leaves { λ _. ⌜ now (bytes .exit) ≡ after-patch (family (Self·FieldRead .fields) patched) kind (now (bytes .entry)) distance ⌝ }
+        ensures holds { λ r. ⌜ (r ≡ Ok tt → Zero-field (Self·FieldRead .fields .table kind) (now (bytes .entry)) → heldIn (Self·FieldRead .fields) kind (now (bytes .exit)) ≡ Ok distance) ⌝ };
 }

@@ -27,8 +27,11 @@ one-is n i k j e = go (eqb k n) e
 
 -- The family that overwrites two bytes.
 
+pub quarter-fits : Fits 4 quarter-info
+quarter-fits = omega arith
+
 pub quarter-lawful : Lawful quarter-family
-quarter-lawful = overwriting 4 (one-kind 0 quarter-info) (omega arith) (λ k i e. subst (Fits 4) (one-is 0 quarter-info k i e) (omega arith))
+quarter-lawful = overwriting 4 (one-kind 0 quarter-info) (omega arith) (λ k i e. subst (Fits 4) (one-is 0 quarter-info k i e) quarter-fits)
 
 -- The family that adds to one.
 
