@@ -80,6 +80,7 @@ impl Catalogue {
     ) -> (Result<Option<Placed>, Refusal>, &'a [u8])
         ensures answers { λ r. ⌜ r .0 ≡ read-rest (entries-in (now (self .entry))) place (now (bytes .entry)) ⌝ }
         ensures rest { λ r. ⌜ now (r .1) ≡ drop (taken (r .0)) (now (bytes .entry)) ⌝ }
+        ensures within { λ r. ⌜ taken (r .0) ≤ length (now (bytes .entry)) ⌝ }
     {
         let answer = self.first(bytes, place);
         let count = size_read(&answer);

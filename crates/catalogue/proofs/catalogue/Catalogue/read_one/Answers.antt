@@ -12,4 +12,5 @@ returns c =
     record {
       answers = c .first-answer .ensures .is;
       rest = take-all (length bytes - count) (drop count bytes) (simp length-drop (omega arith)) ∙ ap (λ (n : ℕ). drop n bytes) (c .size-read-count .ensures);
+      within = c .first-answer .ensures .within;
     }
