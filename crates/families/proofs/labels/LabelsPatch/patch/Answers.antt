@@ -1,5 +1,5 @@
 use Prim.Native.Nat.{ℕ}
-use mathlib.Core.Path.{_≡_, refl, sym, ap, _∙_}
+use mathlib.Core.Path.{_≡_, refl, sym, ap, subst, _∙_}
 use native.Mathlib.Omega.{arith}
 use mathlib.Core.List.{List}
 use lib.IntN.{ℤ}
@@ -9,13 +9,13 @@ use mir.Val.{toZ, ofZ, SFits}
 use mir.Syntax.{w64, w128}
 use Rattle.std.specs.declared.result.Result.{Result}
 use Rattle.std.specs.declared.result.Result.the-variants.{Ok, Err}
-use Rattle.std.proofs.shelf.Signed.{ints, toZ-ofZ}
+use Rattle.std.proofs.shelf.Signed.{toZ-ofZ}
 use Rattle.refusal.specs.Refusals.{answered}
 use Rattle.field.specs.declared.verdict.FieldRefusal.{FieldRefusal}
-use Rattle.field.specs.Family.{label-table, label-family, refuses}
+use Rattle.field.specs.Family.{label-table, label-family, refuses, overwrite}
 use Rattle.field.proofs.Laws.{overwriting-held, not-accepted, refused-answer, refused-leaves}
 use Rattle.families.proofs.Families.{label-short, label-long, label-short-fits, label-long-fits}
-use Rattle.families.proofs.Ready.{ready, passed, answers, leaves}
+use Rattle.families.proofs.Ready.{Ready, ready, passed, answers, leaves}
 use Rattle.families.proofs.labels.LabelsPatch.patch.Needs as need
 
 pub returns-in-Break-checked-distance : need.returns-in-Break-checked-distance
@@ -34,8 +34,9 @@ put-half-requires c κs =
     let f : SFits w64 d = c .fits .distance in
     let f′ : SFits w128 d = search needs in
     let h : _≡_ {A = Result ℤ FieldRefusal} (Ok (c .in-Continue-checked-distance .field-0)) (answered (refuses (label-family .fields) (c .args .kind) (length (c .args .bytes .now)) d) d) = simp toZ-ofZ at (c .in-Continue-checked-distance .ensures tt) in
-    let r = ready label-family (c .args .kind) (c .args .bytes .now) d (c .in-Continue-checked-distance .field-0) h refl label-short (ap label-table (c .in-1 .is)) in
-    simp toZ-ofZ (record { room = r .room; low = r .low; high = r .high; even = r .even })
+    let q = ready label-family (c .args .kind) (c .args .bytes .now) d (c .in-Continue-checked-distance .field-0) h refl label-short (ap label-table (c .in-1 .is)) in
+    let r : Ready label-short (length (c .args .bytes .now)) (toZ w64 (ofZ w64 d)) = subst (Ready label-short (length (c .args .bytes .now))) (sym (toZ-ofZ w64 d f)) q in
+    record { room = r .room; low = search needs; high = search needs; even = search needs }
 
 pub returns-in-1 : need.returns-in-1
 returns-in-1 c =
@@ -45,7 +46,7 @@ returns-in-1 c =
     let k : ℕ = c .args .kind in
     let bytes : List ℕ = c .args .bytes .now in
     let h : _≡_ {A = Result ℤ FieldRefusal} (Ok (c .in-Continue-checked-distance .field-0)) (answered (refuses (label-family .fields) k (length bytes) d) d) = simp toZ-ofZ at (c .in-Continue-checked-distance .ensures tt) in
-    let done : c .put-half .last .bytes ≡ label-family .patched k bytes d = simp toZ-ofZ at (c .put-half .ensures) ∙ ap (λ (n : ℕ). label-family .patched n bytes d) (sym (c .in-1 .is)) in
+    let done : c .put-half .last .bytes ≡ label-family .patched k bytes d = c .put-half .ensures ∙ ap (overwrite 2 2 2 bytes) (toZ-ofZ w64 d f) ∙ ap (λ (n : ℕ). label-family .patched n bytes d) (sym (c .in-1 .is)) in
     record {
       answers = answers label-family k bytes d (c .in-Continue-checked-distance .field-0) h;
       leaves = leaves label-family k bytes d (c .in-Continue-checked-distance .field-0) h (c .put-half .last .bytes) done;
@@ -58,8 +59,9 @@ put-word-requires c κs =
     let f : SFits w64 d = c .fits .distance in
     let f′ : SFits w128 d = search needs in
     let h : _≡_ {A = Result ℤ FieldRefusal} (Ok (c .in-Continue-checked-distance .field-0)) (answered (refuses (label-family .fields) (c .args .kind) (length (c .args .bytes .now)) d) d) = simp toZ-ofZ at (c .in-Continue-checked-distance .ensures tt) in
-    let r = ready label-family (c .args .kind) (c .args .bytes .now) d (c .in-Continue-checked-distance .field-0) h refl label-long (ap label-table (c .in-2 .is)) in
-    simp toZ-ofZ (record { room = r .room; low = let w = r .low in omega (arith, ints); high = r .high; even = r .even })
+    let q = ready label-family (c .args .kind) (c .args .bytes .now) d (c .in-Continue-checked-distance .field-0) h refl label-long (ap label-table (c .in-2 .is)) in
+    let r : Ready label-long (length (c .args .bytes .now)) (toZ w64 (ofZ w64 d)) = subst (Ready label-long (length (c .args .bytes .now))) (sym (toZ-ofZ w64 d f)) q in
+    record { room = r .room; low = search needs; high = search needs; even = search needs }
 
 pub returns-in-2 : need.returns-in-2
 returns-in-2 c =
@@ -69,7 +71,7 @@ returns-in-2 c =
     let k : ℕ = c .args .kind in
     let bytes : List ℕ = c .args .bytes .now in
     let h : _≡_ {A = Result ℤ FieldRefusal} (Ok (c .in-Continue-checked-distance .field-0)) (answered (refuses (label-family .fields) k (length bytes) d) d) = simp toZ-ofZ at (c .in-Continue-checked-distance .ensures tt) in
-    let done : c .put-word .last .bytes ≡ label-family .patched k bytes d = simp toZ-ofZ at (c .put-word .ensures) ∙ ap (λ (n : ℕ). label-family .patched n bytes d) (sym (c .in-2 .is)) in
+    let done : c .put-word .last .bytes ≡ label-family .patched k bytes d = c .put-word .ensures ∙ ap (overwrite 2 2 4 bytes) (toZ-ofZ w64 d f) ∙ ap (λ (n : ℕ). label-family .patched n bytes d) (sym (c .in-2 .is)) in
     record {
       answers = answers label-family k bytes d (c .in-Continue-checked-distance .field-0) h;
       leaves = leaves label-family k bytes d (c .in-Continue-checked-distance .field-0) h (c .put-word .last .bytes) done;
