@@ -1,0 +1,33 @@
+ghost use Prim.Native.Nat.{_≤_};
+
+pub mod labels;
+
+use book::label_book::LabelBook;
+use book::use_book::UseBook;
+use refusal::Refusal;
+use std::marker::PhantomData;
+
+/// A label that was reserved and is to be bound or given up. It cannot be let go.
+pub struct Promise {
+    label: usize,
+}
+
+/// Why a promise was not taken, and the promise.
+pub struct Unkept {
+    pub refusal: Refusal,
+    pub promise: Promise,
+}
+
+/// A code section. The code itself lies in a buffer that each call is lent: `room` bytes, of which `len` are written. Labels and symbols each
+/// have a family of fields.
+#[derive(Drop)]
+pub struct Section<L, S> {
+    room: usize,
+    len: usize,
+    labels: LabelBook,
+    uses: UseBook,
+    label_family: PhantomData<L>,
+    symbol_family: PhantomData<S>,
+    ghost within: { len ≤ room },
+    ghost small: { room ≤ 1048576 },
+}
