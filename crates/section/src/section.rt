@@ -1,6 +1,8 @@
 ghost use Prim.Native.Nat.{_≤_};
 
+mod buffer;
 pub mod labels;
+pub mod writing;
 
 use book::label_book::LabelBook;
 use book::use_book::UseBook;

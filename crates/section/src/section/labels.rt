@@ -1,16 +1,13 @@
 ghost use mathlib.Core.Path.{_≡_};
-ghost use mathlib.Core.List.{List, []};
+ghost use mathlib.Core.List.{List};
 ghost use Rattle.form.specs.declared.instr.Entry.{Entry};
-ghost use Rattle.law.specs.Section.{other-buffer, Reserves, Binds, GivesUp};
+ghost use Rattle.law.specs.Section.{Reserves, Binds, GivesUp};
 ghost use Rattle.section.specs.State.{state, numbered, plain, HandsBack};
 use crate::section::Promise;
 use crate::section::Section;
 use crate::section::Unkept;
 use refusal::Reason;
 use refusal::Refusal;
-
-/// The most bytes that a code buffer has.
-pub const LARGEST_BUFFER: usize = 1048576;
 
 impl Promise {
     /// The label's number.
@@ -22,13 +19,6 @@ impl Promise {
 }
 
 impl<L, S> Section<L, S> {
-    /// Whether a buffer cannot be the section's: it is too long, or has not the length that the section was opened with.
-    fn is_other(&self, code: &[u8]) -> bool
-        ensures { λ r. ⌜ r ≡ other-buffer (state (now (self .entry)) [] (now (code .entry))) ⌝ }
-    {
-        code.len() > LARGEST_BUFFER || code.len() != self.room
-    }
-
     /// A new label. Refused by BUFFER and FULL.
     pub fn reserve(&mut self, code: &[u8]) -> Result<Promise, Refusal>
         ensures { λ r. ⌜ ((es : List Entry) → Reserves (state (now (self .entry)) es (now (code .entry))) (numbered r) (state (now (self .exit)) es (now (code .entry)))) ⌝ }
