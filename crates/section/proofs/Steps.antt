@@ -34,7 +34,8 @@ use Rattle.book.specs.declared.target.Target.{Target}
 use Rattle.book.specs.Books.{leaves-use}
 use Rattle.settle_law.specs.Settle.{first-of}
 use Rattle.address.specs.declared.access.Aimed.{Aimed}
-use Rattle.law.specs.Section.{State, Call, written, other-buffer, section-refusal}
+use Rattle.law.specs.Section.{State, Call, written, other-buffer, section-refusal, open-answer, empty-books}
+use Rattle.field.specs.Family.{Fields, serves}
 use Rattle.section.specs.Extended.{extended}
 
 -- nothing refused it
@@ -166,3 +167,7 @@ pub by-lone : (es : List Entry) (f : Form) (o : ℕ) (z : ℤ) (at : ℕ) (zs : 
     → r ≡ answer at (first-refusal (put-checks es f o zs)) (encoded f o zs) → r ≡ answer at (first-refusal (first-checks es f o z)) (encoded f o (six (z ∷ [])))
 by-lone es f o z at zs {r} e h =
     by-first es f o z at (encoded f o (six (z ∷ []))) (subst (λ (xs : List ℤ). r ≡ answer at (first-refusal (put-checks es f o xs)) (encoded f o xs)) e h)
+
+pub too-long : (L S : Fields) (code : List ℕ) → ltb 1048576 (length code) ≡ true → Err (refused-at 0 why.Buffer) ≡ open-answer L S code
+too-long L S code h =
+    subst (λ (b : Bool). Err (refused-at 0 why.Buffer) ≡ answer 0 (cond b (Some why.Buffer) (first-refusal (why.Kind when not (serves L && serves S) ∷ []))) (empty-books code)) (sym h) refl

@@ -1,2 +1,3 @@
 pub mod State
 pub mod Extended
+pub mod Opening

@@ -2,6 +2,7 @@ ghost use Prim.Native.Nat.{_≤_};
 
 mod buffer;
 pub mod labels;
+pub mod opening;
 pub mod writing;
 
 use book::label_book::LabelBook;
