@@ -1,3 +1,4 @@
 pub mod State
 pub mod Extended
 pub mod Opening
+pub mod Closing

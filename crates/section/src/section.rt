@@ -1,8 +1,10 @@
 ghost use Prim.Native.Nat.{_≤_};
 
 mod buffer;
+pub mod closing;
 pub mod labels;
 pub mod opening;
+pub mod promised;
 pub mod writing;
 
 use book::label_book::LabelBook;
@@ -33,4 +35,16 @@ pub struct Section<L, S> {
     symbol_family: PhantomData<S>,
     ghost within: { len ≤ room },
     ghost small: { room ≤ 1048576 },
+}
+
+/// Finished code: how many bytes of the buffer it has.
+#[derive(Drop)]
+pub struct Finished {
+    count: usize,
+}
+
+/// Why a section was not closed, and the section.
+pub struct Unclosed<L, S> {
+    pub refusal: Refusal,
+    pub section: Section<L, S>,
 }

@@ -1,4 +1,3 @@
-ghost use mathlib.Core.Path.{_≡_};
 ghost use mathlib.Core.List.{List};
 ghost use Rattle.form.specs.declared.instr.Entry.{Entry};
 ghost use Rattle.law.specs.Section.{Reserves, Binds, GivesUp};
@@ -8,15 +7,6 @@ use crate::section::Section;
 use crate::section::Unkept;
 use refusal::Reason;
 use refusal::Refusal;
-
-impl Promise {
-    /// The label's number.
-    pub fn label(&self) -> usize
-        ensures { λ r. ⌜ r ≡ now (self .entry) .label ⌝ }
-    {
-        self.label
-    }
-}
 
 impl<L, S> Section<L, S> {
     /// A new label. Refused by BUFFER and FULL.
