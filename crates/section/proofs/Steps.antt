@@ -83,7 +83,7 @@ padded-off f o zs =
 abbrev pub item : Form → ℕ → List ℤ → Option Target → Aimed
 item f o zs aim = record { instr = record { form = f; opcode = o; operands = zs }; aim = aim }
 
-one-more : (s : State) (f : Form) (o : ℕ) (zs : List ℤ) (aim : Option Target) → extended s (encoded f o zs) aim ≡ written s (item f o zs aim ∷ [])
+pub one-more : (s : State) (f : Form) (o : ℕ) (zs : List ℤ) (aim : Option Target) → extended s (encoded f o zs) aim ≡ written s (item f o zs aim ∷ [])
 one-more s f o zs None = rw (padded-off f o zs)
 one-more s f o zs (Some t) = rw (padded-off f o zs)
 

@@ -2,3 +2,4 @@ pub mod State
 pub mod Extended
 pub mod Opening
 pub mod Closing
+pub mod Fits

@@ -1,5 +1,6 @@
 ghost use Prim.Native.Nat.{_≤_};
 
+mod accessing;
 mod buffer;
 pub mod closing;
 pub mod labels;
