@@ -28,7 +28,7 @@ use Rattle.address.specs.Aimed.{size-of-all}
 use Rattle.law.specs.Section.{State, written-one, written, use-at}
 use Rattle.section.specs.Fits.{Fits, one-aim, aims}
 
-size-append : (xs ys : List Aimed) → size-of-all (xs ++ ys) ≡ size-of-all xs + size-of-all ys
+pub size-append : (xs ys : List Aimed) → size-of-all (xs ++ ys) ≡ size-of-all xs + size-of-all ys
 size-append [] ys = omega arith
 size-append (x ∷ xs) ys = let h = size-append xs ys in omega arith
 

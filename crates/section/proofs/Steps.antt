@@ -52,7 +52,7 @@ either : {X : Type 0} (b : Bool) (x : X) (o p q : Option X) → p ≡ first-of o
 either true x o p q h = refl
 either false x o p q h = h
 
-first-append : (cs ds : Checks) → first-refusal (cs ++ ds) ≡ first-of (first-refusal cs) (first-refusal ds)
+pub first-append : (cs ds : Checks) → first-refusal (cs ++ ds) ≡ first-of (first-refusal cs) (first-refusal ds)
 first-append [] ds = refl
 first-append (c ∷ cs) ds = either (c .1) (c .0) (first-refusal cs) (first-refusal (cs ++ ds)) (first-refusal ds) (first-append cs ds)
 

@@ -3,3 +3,4 @@ pub mod Extended
 pub mod Opening
 pub mod Closing
 pub mod Fits
+pub mod Accessing
