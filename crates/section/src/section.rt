@@ -1,6 +1,6 @@
 ghost use Prim.Native.Nat.{_≤_};
 
-mod accessing;
+pub mod accessing;
 mod buffer;
 pub mod closing;
 pub mod labels;

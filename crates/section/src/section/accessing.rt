@@ -16,7 +16,7 @@ ghost use Rattle.address.specs.Aimed.{size-of-all};
 ghost use mathlib.Core.List.{List, [], _∷_};
 ghost use Rattle.form.specs.declared.instr.Entry.{Entry};
 ghost use Rattle.address.specs.Held.{listed, items-of, when-ok};
-ghost use Rattle.law.specs.Section.{written};
+ghost use Rattle.law.specs.Section.{written, Accesses};
 ghost use Rattle.section.specs.State.{state};
 ghost use Rattle.section.specs.Fits.{Fits};
 use crate::section::Section;
@@ -31,6 +31,7 @@ use catalogue::entry::misfit;
 use codec::encode::encode;
 use form::instr::Entry;
 use refusal::Reason;
+use refusal::Refusal;
 
 /// Whether an opcode that is given does not fit its form.
 fn misfits(entry: Option<Entry>) -> bool
@@ -166,5 +167,33 @@ impl<L, S> Section<L, S> {
         self.write_if(code, &plan.first);
         self.write_if(code, &plan.second);
         self.write_item(code, &plan.access);
+    }
+
+    /// Writes an access at the end, after what it needs to reach its address. Refused by BUFFER, MISFIT, OPCODE, OPERAND, FRAME, TEMPORARY,
+    /// FAR, FORM, LABEL, ODD, CONSTANT, FULL and ROOM.
+    pub fn access(
+        &mut self,
+        catalogue: &Catalogue,
+        code: &mut [u8],
+        access: &Access,
+        may_trap: bool,
+        mem: &MemArg,
+        frame: &Frame,
+    ) -> Result<(), Refusal>
+        ensures { λ r. ⌜ Accesses standard (state (now (self .entry)) (entries-in (now (catalogue .entry))) (now (code .entry))) (now (access .entry)) «may_trap» (now (mem .entry)) (now (frame .entry)) r (state (now (self .exit)) (entries-in (now (catalogue .entry))) (now (code .exit))) ⌝ }
+    {
+        if self.is_other(code) {
+            return Err(Refusal::at(self.len, Reason::Buffer));
+        }
+        match self.planned(catalogue, access, may_trap, mem, frame) {
+            Err(reason) => Err(Refusal::at(self.len, reason)),
+            Ok(plan) => match self.space(is_aimed(mem), size_of_plan(&plan)) {
+                Err(reason) => Err(Refusal::at(self.len, reason)),
+                Ok(()) => {
+                    self.write_plan(code, &plan);
+                    Ok(())
+                }
+            },
+        }
     }
 }
