@@ -17,8 +17,18 @@ method's) and its arguments in order. Numbers are decimal or 0x with `-` in fron
 register, displacements and the distances of RIL-b and RIL-c raw 32 bits. It answers bytes as hexadecimal digits, numbers in decimal,
 `bits shift` for shifted immediates, `none`, `panic`, or `error` and what is wrong with the line.
 
-What the oracle answers is stored as it is, with `refused 6` for `panic`: the library refuses, where the Rust panics, for an operand outside its
-kind. Behind that part, under a comment of their own, stand lines that the oracle does not know, with answers written here.
+For addresses add `mem_finalize`, the five `mem_*emit`, `MemArg` and its methods (`memarg_` in front), and the three arms of `Inst::emit` for
+LoadAddr, Mov64SImm16 and Mov64SImm32. `state NOMINAL OUTGOING INCOMING CLOBBER FIXED STACKSLOTS OUTARGS` sets the frame for the lines after it; a
+`mem_*emit` takes the data operands, the opcodes (`-` for an absent one), whether it may trap, and an address. An address is `bxd12 B X D FLAGS`,
+`bxd20 B X D FLAGS`, `label N`, `const N`, `sym N OFF FLAGS`, `reg R OFF FLAGS`, or `isp`, `inarg`, `outarg`, `slot`, `spill` and OFF; FLAGS are `a`
+or `u`, aligned or not, with the trap code, 0 for none. `mem_finalize` takes the permissions D12 D20 PCREL UNALIGNED_PCREL INDEX and an address, and
+answers `[helper; helper] ADDRESS`. A `mem_*emit` answers the bytes of each instruction, then `use=OFFSET:LABEL:2`, `reloc=OFFSET:SYMBOL:ADDEND`
+and `trap=OFFSET:CODE`. What the library plans has no trap records: the `trap=` words are taken off, so answers are compared without trap records.
+
+What the oracle answers is stored otherwise as it is, with `refused 6` for `panic`: the library refuses, where the Rust panics, for an operand
+outside its kind. For addresses, addresses.py says which refusal stands for `panic`, and this fails where the two do not refuse the same lines. What
+the Rust does not look at and the library refuses (constants, odd offsets of symbols, masks above 15, and for `mem_finalize` the class of registers)
+and the one symbol offset to which the Rust cannot add 2 are left out of that part. Behind it, under a comment of their own, stand lines that the oracle does not know, with answers written here.
 """
 import itertools
 import os
@@ -26,6 +36,7 @@ import random
 import subprocess
 import sys
 
+import addresses
 from forms import EXAMPLES, FORMS
 
 ROOT = os.path.join(os.path.dirname(os.path.abspath(__file__)), "..", "..")
@@ -163,7 +174,6 @@ OURS = [(f"machreg_to_{kind} {reg}", "refused 6") for kind in ("gpr", "vr", "fpr
 OURS += [("rxb i16 - - -", "8"), ("rxb - f32 - -", "4"), ("rxb - - i255 -", "2"), ("rxb - - - f255", "1")]
 OURS += [(f"cond_invert {mask}", "refused 6") for mask in (0, 15, 16, 255)]
 OURS += [
-    ("state 0 0 0 0 0 0 0 0", "error not yet answered: state"), ("mem_emit", "error not yet answered: mem_emit"),
     ("enc_rr_a 0x1a i1 i2", "error unknown command enc_rr_a"), ("enc_", "error unknown command enc_"), ("cond_", "error unknown command cond_"),
     ("enc_ri_d 1", "error unknown command enc_ri_d"), ("rxb_of -", "error unknown command rxb_of"),
     ("cond_from_mask --1", "error not a number: --1"), ("cond_from_mask 0x", "error not a number: 0x"),
@@ -183,11 +193,27 @@ def unknown_registers():
     return lines
 
 
-def ask(oracle, lines):
+def without_traps(answer):
+    return " ".join(word for word in answer.split(" ") if not word.startswith("trap="))
+
+
+def answered(oracle, lines):
     run = subprocess.run([oracle], input="".join(line + "\n" for line in lines), capture_output=True, text=True, check=True)
     answers = run.stdout.splitlines()
     assert len(answers) == len(lines), (len(answers), len(lines))
-    return ["refused 6" if answer == "panic" else answer for answer in answers]
+    return [without_traps(answer) for answer in answers]
+
+
+def ask(oracle, lines):
+    return ["refused 6" if answer == "panic" else answer for answer in answered(oracle, lines)]
+
+
+def ask_addresses(oracle, expected):
+    """The oracle's answers, with the refusals that the rules tell; both have to refuse the same lines."""
+    answers = answered(oracle, [line for line, _ in expected])
+    for (line, refusal), answer in zip(expected, answers):
+        assert (answer == "panic") == (refusal != 0) and not answer.startswith("error"), (line, refusal, answer)
+    return [f"refused {refusal}" if refusal else answer for (_, refusal), answer in zip(expected, answers)]
 
 
 def main():
@@ -196,19 +222,23 @@ def main():
     parts = [(name, encoder(rng, name)) for name in FORMS]
     parts += [("immediates", immediates(rng)), ("registers", registers()), ("conditions", conditions())]
     parts += [("examples of the Principles of Operation", [command for _, command, _ in EXAMPLES])]
-    parts += [("lines that are wrong", BAD)]
+    bad = BAD + addresses.BAD
+    parts += [("lines that are wrong", bad)]
     commands, answers = ["# Made by tests/oracle/make_list.py: do not edit."], []
     for title, lines in parts:
         got = ask(oracle, lines)
-        assert all(answer.startswith("error") == (lines is BAD) for answer in got), title
+        assert all(answer.startswith("error") == (lines is bad) for answer in got), title
         commands += [f"# {title}"] + lines
         answers += got
     for (_, command, known), got in zip(EXAMPLES, ask(oracle, [command for _, command, _ in EXAMPLES])):
         assert got == known, (command, got, known)
+    expected = addresses.lines(rng)
+    commands += ["# addresses and accesses"] + [line for line, _ in expected]
+    answers += ask_addresses(oracle, expected)
     asked = len(answers)
-    refused = answers.count("refused 6")
+    refused = sum(answer.startswith("refused") for answer in answers)
     commands.append("# From here on: not known to the oracle.")
-    for command, answer in unknown_registers() + OURS:
+    for command, answer in unknown_registers() + OURS + addresses.ours():
         commands.append(command)
         answers.append(answer)
     print(f"{asked} answers of the oracle, {refused} of them refusals; {len(answers) - asked} of our own")

@@ -1,3 +1,12 @@
+use crate::shown::FlagsDisplay;
+use crate::shown::HelpersDisplay;
+use crate::shown::MemArgDisplay;
+use crate::shown::Shown;
+use crate::written::WrittenPlan;
+use crate::written::WrittenPlanDisplay;
+use address::args::Helpers;
+use address::args::MachMemFlags;
+use address::args::MemArg;
 use condition::cond::Cond;
 use condition::condcodes::IntCC;
 use operand::imms::SImm20;
@@ -17,7 +26,14 @@ pub enum Answer {
     /// the bits of an immediate and its shift
     Shifted(u32, u8),
     Condition(IntCC),
-    Conditions(&'static [IntCC]),
+    /// the names of all comparisons
+    AllConditions,
+    Address(MemArg),
+    Flags(MachMemFlags),
+    /// the helpers, and the address that is left
+    Finalized(Helpers, MemArg),
+    Written(WrittenPlan),
+    Done,
     Nothing,
     Refused(u8),
 }
@@ -131,7 +147,22 @@ pub impl fmt::Display for Answer as AnswerDisplay {
             Answer::Number(n) => write!(f, "{n}"),
             Answer::Shifted(bits, shift) => write!(f, "{bits} {shift}"),
             Answer::Condition(cc) => f.write_str(cc.to_static_str()),
-            Answer::Conditions(all) => names(all, f),
+            Answer::AllConditions => names(IntCC::all(), f),
+            Answer::Address(mem) => {
+                let mem = Shown(*mem);
+                write!(f, "{mem}")
+            }
+            Answer::Flags(flags) => {
+                let flags = Shown(*flags);
+                write!(f, "{flags}")
+            }
+            Answer::Finalized(helpers, mem) => {
+                let helpers = Shown(*helpers);
+                let mem = Shown(*mem);
+                write!(f, "[{helpers}] {mem}")
+            }
+            Answer::Written(plan) => write!(f, "{plan}"),
+            Answer::Done => f.write_str("ok"),
             Answer::Nothing => f.write_str("none"),
             Answer::Refused(number) => write!(f, "refused {number}"),
         }

@@ -31,7 +31,7 @@ pub fn mask(name: &str, args: &mut Args) -> Answered {
 /// Comparisons of integers.
 pub fn comparison(name: &str, args: &mut Args) -> Answered {
     match name {
-        "intcc_all" => Ok(Answer::Conditions(IntCC::all())),
+        "intcc_all" => Ok(Answer::AllConditions),
         "intcc_complement" => Ok(args.read::<IntCC>()?.complement().into()),
         "intcc_swap_args" => Ok(args.read::<IntCC>()?.swap_args().into()),
         "intcc_without_equal" => Ok(args.read::<IntCC>()?.without_equal().into()),

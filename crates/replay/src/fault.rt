@@ -16,7 +16,6 @@ pub enum NumberType {
 #[derive(Clone, Copy)]
 pub enum Fault {
     UnknownCommand,
-    NotYetAnswered,
     MissingArgument,
     TooManyArguments,
     NotNumber,
@@ -25,6 +24,8 @@ pub enum Fault {
     OutsideSImm20,
     NotRegister,
     NotCondition,
+    BadFlags,
+    UnknownAddress,
 }
 
 /// A fault with the word that it was found at.
@@ -53,7 +54,6 @@ pub impl<'a> fmt::Display for Found<'a> as FoundDisplay {
         let word = self.word;
         match self.fault {
             Fault::UnknownCommand => write!(f, "unknown command {word}"),
-            Fault::NotYetAnswered => write!(f, "not yet answered: {word}"),
             Fault::MissingArgument => f.write_str("missing argument"),
             Fault::TooManyArguments => f.write_str("too many arguments"),
             Fault::NotNumber => write!(f, "not a number: {word}"),
@@ -65,6 +65,8 @@ pub impl<'a> fmt::Display for Found<'a> as FoundDisplay {
             Fault::OutsideSImm20 => f.write_str("outside SImm20"),
             Fault::NotRegister => write!(f, "not a register: {word}"),
             Fault::NotCondition => write!(f, "unknown IntCC {word}"),
+            Fault::BadFlags => write!(f, "bad flags {word}"),
+            Fault::UnknownAddress => write!(f, "unknown address form {word}"),
         }
     }
 }

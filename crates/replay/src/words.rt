@@ -1,19 +1,26 @@
 use crate::fault::Fault;
 use std::str::SplitWhitespace;
 
+mod addresses;
 mod lists;
 mod numbers;
 mod operands;
 
+pub use addresses::FlagsArgument;
+pub use addresses::FrameArgument;
+pub use addresses::MemArgArgument;
+pub use addresses::MemInstTypeArgument;
 pub use lists::FiveArguments;
 pub use lists::FourArguments;
 pub use lists::SevenArguments;
 pub use lists::SixArguments;
 pub use lists::ThreeArguments;
 pub use lists::TwoArguments;
+pub use numbers::BoolArgument;
 pub use numbers::I16Argument;
 pub use numbers::I32Argument;
 pub use numbers::I64Argument;
+pub use numbers::OptionU16Argument;
 pub use numbers::U8Argument;
 pub use numbers::U16Argument;
 pub use numbers::U32Argument;

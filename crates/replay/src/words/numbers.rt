@@ -81,3 +81,25 @@ pub impl Argument for i64 as I64Argument {
             .ok_or(Fault::OutOfRange(NumberType::I64))
     }
 }
+
+/// 0 is false, any other number up to 255 is true.
+pub impl Argument for bool as BoolArgument {
+    fn read(args: &mut Args) -> Result<bool, Fault> {
+        Ok(args.read::<u8>()? != 0)
+    }
+}
+
+/// `-` is no number.
+pub impl Argument for Option<u16> as OptionU16Argument {
+    fn read(args: &mut Args) -> Result<Option<u16>, Fault> {
+        let word = args.word()?;
+        if word == "-" {
+            return Ok(None);
+        }
+        let size = number(word).ok_or(Fault::NotNumber)?;
+        match u16::try_from(size) {
+            Ok(size) => Ok(Some(size)),
+            Err(_) => Err(Fault::OutOfRange(NumberType::U16)),
+        }
+    }
+}
