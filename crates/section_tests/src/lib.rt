@@ -1,0 +1,4 @@
+//! Tests of sections with the label and the relocation family.
+
+#[cfg(test)]
+mod tests;
