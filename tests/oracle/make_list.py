@@ -28,7 +28,8 @@ and `trap=OFFSET:CODE`. What the library plans has no trap records: the `trap=` 
 What the oracle answers is stored otherwise as it is, with `refused 6` for `panic`: the library refuses, where the Rust panics, for an operand
 outside its kind. For addresses, addresses.py says which refusal stands for `panic`, and this fails where the two do not refuse the same lines. What
 the Rust does not look at and the library refuses (constants, odd offsets of symbols, masks above 15, and for `mem_finalize` the class of registers)
-and the one symbol offset to which the Rust cannot add 2 are left out of that part. Behind it, under a comment of their own, stand lines that the oracle does not know, with answers written here.
+and the one symbol offset to which the Rust cannot add 2 are left out of that part. Behind it, under a comment of their own, stand lines that the
+oracle does not know, with answers written here; of the catalogue's lines (`admit`, `read`) those at the end read the oracle's bytes.
 """
 import itertools
 import os
@@ -180,6 +181,20 @@ OURS += [
     ("   cond_from_mask\t8   # blanks and a comment", "8"),
 ]
 
+# The catalogue: one for the whole list, with LGFI, LA, LAY and LARL at the start.
+CATALOGUE = [
+    ("read -", "none"), ("read c01100080000", "ril_a 0xc01 1 524288 0 0 0 0"), ("read 41412345", "rx 0x41 4 2 1 837 0 0"),
+    ("read e3341ffbff71", "rxy 0xe371 3 1 4 -5 0 0"), ("read c01000000005", "ril_b 0xc00 1 10 0 0 0 0"), ("read 5834", "refused 17"),
+    ("read 58341005", "refused 18"), ("admit rx 0x58", "ok"), ("admit rx 0x58", "refused 4"), ("admit rs 0x58", "refused 4"),
+    ("read 58341005", "rx 0x58 3 1 4 5 0 0"), ("admit rx 0x158", "refused 3"), ("admit rx 0xe3", "refused 3"), ("admit sil 0xe301", "refused 4"),
+    ("admit rr 0x1a", "ok"), ("read 1a34", "rr 0x1a 3 4 0 0 0 0"), ("read 1a3458341005", "rr 0x1a 3 4 0 0 0 0"), ("read 1a", "refused 17"),
+    ("admit rre 0xb904", "ok"), ("read b9040034", "rre 0xb904 3 4 0 0 0 0"), ("read b9041034", "refused 19"), ("admit vrx 0xe706", "ok"),
+    ("read e7541ffb6806", "vrx 0xe706 21 1 4 4091 6 0"), ("read e7541ffb6406", "refused 19"), ("read e7541ffb6807", "refused 18"),
+    ("read 1a3", "error not bytes: 1a3"), ("read 1g", "error not bytes: 1g"), ("read 1a341a341a341a341a", "error not bytes: 1a341a341a341a341a"),
+    ("admit rx_a 0x58", "error unknown form rx_a"), ("admit rx 65536", "error 65536 out of range of u16"), ("admit rx", "error missing argument"),
+    ("admit_rx 0x58", "error unknown command admit_rx"),
+]
+
 
 def unknown_registers():
     """Each register operand of each form with registers that do not exist."""
@@ -206,6 +221,21 @@ def answered(oracle, lines):
 
 def ask(oracle, lines):
     return ["refused 6" if answer == "panic" else answer for answer in answered(oracle, lines)]
+
+
+def read_back(oracle):
+    """Each form's opcode is admitted, and the oracle's bytes are read as the operands that it was given."""
+    values = dict(STEADY, D=["0x4c3"], H32=["-7456"], HU32=["0x3579bde"])
+    held = {"ril_a": 0xC01, "ril_b": 0xC00, "rx": 0x58, "rr": 0x1A, "rre": 0xB904}
+    lines = []
+    for name, (_, opcode, kinds) in FORMS.items():
+        form = name.removeprefix("enc_")
+        given = [values[kind][kinds[:i].count(kind)] for i, kind in enumerate(kinds)]
+        numbers = [int(word.lstrip("if"), 0) for word in given]
+        (code,) = ask(oracle, [" ".join([name, hex(opcode)] + given)])
+        lines.append((f"admit {form} {hex(opcode)}", "refused 4" if held.get(form) == opcode else "ok"))
+        lines.append((f"read {code}", " ".join([form, hex(opcode)] + [str(n) for n in numbers + [0] * (6 - len(numbers))])))
+    return lines
 
 
 def ask_addresses(oracle, expected):
@@ -238,7 +268,7 @@ def main():
     asked = len(answers)
     refused = sum(answer.startswith("refused") for answer in answers)
     commands.append("# From here on: not known to the oracle.")
-    for command, answer in unknown_registers() + OURS + addresses.ours():
+    for command, answer in unknown_registers() + OURS + addresses.ours() + CATALOGUE + read_back(oracle):
         commands.append(command)
         answers.append(answer)
     print(f"{asked} answers of the oracle, {refused} of them refusals; {len(answers) - asked} of our own")

@@ -1,3 +1,4 @@
+use crate::forms::name_of;
 use crate::shown::FlagsDisplay;
 use crate::shown::HelpersDisplay;
 use crate::shown::MemArgDisplay;
@@ -9,6 +10,7 @@ use address::args::MachMemFlags;
 use address::args::MemArg;
 use condition::cond::Cond;
 use condition::condcodes::IntCC;
+use form::instr::Instr;
 use operand::imms::SImm20;
 use operand::imms::UImm12;
 use operand::imms::UImm16Shifted;
@@ -33,6 +35,8 @@ pub enum Answer {
     /// the helpers, and the address that is left
     Finalized(Helpers, MemArg),
     Written(WrittenPlan),
+    /// an instruction that was read
+    Instruction(Instr),
     Done,
     Nothing,
     Refused(u8),
@@ -138,6 +142,17 @@ fn names<W: fmt::Write>(all: &[IntCC], f: &mut fmt::Formatter<W>) -> fmt::Result
     Ok(())
 }
 
+/// The form, the opcode and the six operands.
+fn instruction<W: fmt::Write>(instr: &Instr, f: &mut fmt::Formatter<W>) -> fmt::Result {
+    let form = name_of(instr.form);
+    let opcode = instr.opcode;
+    write!(f, "{form} 0x{opcode:x}")?;
+    for operand in &instr.operands {
+        write!(f, " {operand}")?;
+    }
+    Ok(())
+}
+
 pub impl fmt::Display for Answer as AnswerDisplay {
     fn fmt<W: fmt::Write>(&self, f: &mut fmt::Formatter<W>) -> fmt::Result {
         match self {
@@ -162,6 +177,7 @@ pub impl fmt::Display for Answer as AnswerDisplay {
                 write!(f, "[{helpers}] {mem}")
             }
             Answer::Written(plan) => write!(f, "{plan}"),
+            Answer::Instruction(instr) => instruction(instr, f),
             Answer::Done => f.write_str("ok"),
             Answer::Nothing => f.write_str("none"),
             Answer::Refused(number) => write!(f, "refused {number}"),

@@ -26,6 +26,8 @@ pub enum Fault {
     NotCondition,
     BadFlags,
     UnknownAddress,
+    UnknownForm,
+    NotBytes,
 }
 
 /// A fault with the word that it was found at.
@@ -67,6 +69,8 @@ pub impl<'a> fmt::Display for Found<'a> as FoundDisplay {
             Fault::NotCondition => write!(f, "unknown IntCC {word}"),
             Fault::BadFlags => write!(f, "bad flags {word}"),
             Fault::UnknownAddress => write!(f, "unknown address form {word}"),
+            Fault::UnknownForm => write!(f, "unknown form {word}"),
+            Fault::NotBytes => write!(f, "not bytes: {word}"),
         }
     }
 }

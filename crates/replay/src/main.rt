@@ -7,13 +7,19 @@
 //! `state` sets the frame for the lines after it. `mem_emit`, `mem_rs_emit`, `mem_imm8_emit`, `mem_imm16_emit` and `mem_vrx_emit` plan an access,
 //! with the opcodes as they are given, and answer the bytes of each instruction, then `use=PLACE:LABEL:2` or `reloc=PLACE:SYMBOL:ADDEND` for what
 //! is aimed, without trap records.
+//!
+//! `admit FORM OPCODE` adds an opcode to the catalogue, which holds LGFI, LA, LAY and LARL at the start, and answers `ok`. `read BYTES` reads the
+//! instruction that up to eight bytes begin with, and answers its form, opcode and six operands; `read -` has no bytes, and answers `none`.
 
 use address::frame::Frame;
 use answer::Answer;
 use answer::AnswerDisplay;
+use catalogue::catalogue::Catalogue;
 use fault::Fault;
 use fault::Found;
 use fault::FoundDisplay;
+use refusal::Refusal;
+use std::alloc::Global;
 use std::io;
 use std::io::BufRead;
 use std::io::BufReader;
@@ -23,7 +29,9 @@ mod addresses;
 mod answer;
 mod conditions;
 mod encoders;
+mod entries;
 mod fault;
+mod forms;
 mod immediates;
 mod registers;
 mod shown;
@@ -34,15 +42,17 @@ mod written;
 type Answered = Result<Answer, Fault>;
 
 /// What stays from one line to the next.
-#[derive(Clone, Copy)]
+#[derive(Drop)]
 struct State {
     /// the frame that offsets are counted in; all its parts are 0 at the start
     frame: Frame,
+    catalogue: Catalogue,
 }
 
 impl State {
-    fn new() -> State {
-        State {
+    fn new(heap: Global) -> Result<State, Refusal> {
+        let catalogue = Catalogue::new(heap)?;
+        Ok(State {
             frame: Frame {
                 incoming_args_size: 0,
                 clobber_size: 0,
@@ -52,7 +62,8 @@ impl State {
                 nominal_sp_offset: 0,
                 outgoing_sp_offset: 0,
             },
-        }
+            catalogue,
+        })
     }
 }
 
@@ -67,6 +78,7 @@ fn dispatch(state: &mut State, name: &str, args: &mut Args) -> Answered {
         "cond" => conditions::mask(name, args),
         "intcc" => conditions::comparison(name, args),
         "state" | "mem" | "memarg" => addresses::answer(state, name, args),
+        "admit" | "read" => entries::answer(&mut state.catalogue, name, args),
         _ => Err(Fault::UnknownCommand),
     }
 }
@@ -98,7 +110,9 @@ fn respond(rt: &LibcRuntime, state: &mut State, line: &str) -> io::Result<()> {
 }
 
 fn main(rt: LibcRuntime) -> io::Result<()> {
-    let mut state = State::new();
+    let Ok(mut state) = State::new(rt.alloc()) else {
+        return println!(rt, "no memory");
+    };
     for line in BufReader::new(rt.stdin()).split(rt.alloc(), b'\n') {
         match std::str::from_utf8(line?.as_slice()) {
             Ok(text) => respond(&rt, &mut state, text)?,

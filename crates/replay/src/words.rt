@@ -2,6 +2,7 @@ use crate::fault::Fault;
 use std::str::SplitWhitespace;
 
 mod addresses;
+mod code;
 mod lists;
 mod numbers;
 mod operands;
@@ -10,6 +11,9 @@ pub use addresses::FlagsArgument;
 pub use addresses::FrameArgument;
 pub use addresses::MemArgArgument;
 pub use addresses::MemInstTypeArgument;
+pub use code::Code;
+pub use code::CodeArgument;
+pub use code::FormArgument;
 pub use lists::FiveArguments;
 pub use lists::FourArguments;
 pub use lists::SevenArguments;
