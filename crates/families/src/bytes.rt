@@ -7,7 +7,7 @@ ghost use Rattle.refusal.specs.Numbers.{signed, big-endian};
 ghost use Rattle.field.specs.Family.{overwrite};
 
 /// Twice the number in two bytes.
-pub fn half_at(bytes: &[u8], at: usize) -> i64
+pub(crate) fn half_at(bytes: &[u8], at: usize) -> i64
     requires { ⌜ at + 2 ≤ length (now bytes) ⌝ }
     ensures { λ r. ⌜ r ≡ pos 2 *ℤ signed 16 (big-endian 0 (take 2 (drop at (now (bytes .entry))))) ⌝ }
 {
@@ -15,7 +15,7 @@ pub fn half_at(bytes: &[u8], at: usize) -> i64
 }
 
 /// Twice the number in four bytes.
-pub fn word_at(bytes: &[u8], at: usize) -> i64
+pub(crate) fn word_at(bytes: &[u8], at: usize) -> i64
     requires { ⌜ at + 4 ≤ length (now bytes) ⌝ }
     ensures { λ r. ⌜ r ≡ pos 2 *ℤ signed 32 (big-endian 0 (take 4 (drop at (now (bytes .entry))))) ⌝ }
 {
@@ -23,7 +23,7 @@ pub fn word_at(bytes: &[u8], at: usize) -> i64
 }
 
 /// Writes half of an even distance over two bytes.
-pub fn put_half(bytes: &mut [u8], at: usize, distance: i64)
+pub(crate) fn put_half(bytes: &mut [u8], at: usize, distance: i64)
     requires room { ⌜ at + 2 ≤ length (now bytes) ⌝ }
     requires low { ⌜ negsuc 65535 ≤ℤ distance ⌝ }
     requires high { ⌜ distance ≤ℤ pos 65534 ⌝ }
@@ -36,7 +36,7 @@ pub fn put_half(bytes: &mut [u8], at: usize, distance: i64)
 }
 
 /// Writes half of an even distance over four bytes.
-pub fn put_word(bytes: &mut [u8], at: usize, distance: i64)
+pub(crate) fn put_word(bytes: &mut [u8], at: usize, distance: i64)
     requires room { ⌜ at + 4 ≤ length (now bytes) ⌝ }
     requires low { ⌜ negsuc 4294967295 ≤ℤ distance ⌝ }
     requires high { ⌜ distance ≤ℤ pos 4294967294 ⌝ }
