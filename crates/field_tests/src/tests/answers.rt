@@ -21,22 +21,26 @@ fn distance(r: Result<i64, FieldRefusal>) -> i64 {
 }
 
 /// What a patch answers.
-pub fn patch<F: FieldPatch>(kind: u8, bytes: &mut [u8], distance: i64) -> u8 {
+pub(crate) fn patch<F: FieldPatch>(kind: u8, bytes: &mut [u8], distance: i64) -> u8 {
     number(F::patch(kind, bytes, distance))
 }
 
 /// What a family reads.
-pub fn held<F: FieldPatch>(kind: u8, bytes: &[u8]) -> i64 {
+pub(crate) fn held<F: FieldPatch>(kind: u8, bytes: &[u8]) -> i64 {
     distance(F::held(kind, bytes))
 }
 
 /// The range of a kind.
-pub fn range<F: FieldPatch>(kind: u8) -> (i64, i64) {
+pub(crate) fn range<F: FieldPatch>(kind: u8) -> (i64, i64) {
     (distance(F::least(kind)), distance(F::greatest(kind)))
 }
 
 /// Patches zero bytes with each distance in turn: the answers are as given, and what is accepted is held.
-pub fn patches<F: FieldPatch>(kind: u8, size: usize, cases: &[(i64, u8)]) -> Result<(), Fail> {
+pub(crate) fn patches<F: FieldPatch>(
+    kind: u8,
+    size: usize,
+    cases: &[(i64, u8)],
+) -> Result<(), Fail> {
     for (wanted, answer) in cases {
         let mut bytes = [0u8; 8];
         check(size <= 8)?;
@@ -48,7 +52,7 @@ pub fn patches<F: FieldPatch>(kind: u8, size: usize, cases: &[(i64, u8)]) -> Res
 }
 
 /// A refusal's number, place and layer, the layers counted from 1; all 0 where there is none.
-pub fn parts(r: Result<(), Refusal>) -> (u8, usize, u8) {
+pub(crate) fn parts(r: Result<(), Refusal>) -> (u8, usize, u8) {
     match r {
         Ok(_) => (0, 0, 0),
         Err(e) => {

@@ -32,7 +32,7 @@ fn give_up(labels: &mut LabelBook, label: usize) {
 }
 
 /// A book with so many labels, or the answer that stopped it.
-pub fn reserved(heap: Global, count: usize) -> Result<LabelBook, Reason> {
+pub(crate) fn reserved(heap: Global, count: usize) -> Result<LabelBook, Reason> {
     let mut labels = LabelBook::new(heap)?;
     for _ in 0..count {
         let _ = labels.reserve()?;
