@@ -1,5 +1,7 @@
 //! Accesses to memory: the plan of what one writes.
 
+#![tactic(auto)]
+
 ghost use Rattle.access.specs.Specimens.{AddressSpecimens};
 
 pub mod plan;

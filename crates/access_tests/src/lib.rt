@@ -1,5 +1,7 @@
 //! Addresses and accesses on examples.
 
+#![tactic(auto)]
+
 #[cfg(test)]
 mod tests {
     use access::plan::plan;

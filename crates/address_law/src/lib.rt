@@ -1,5 +1,7 @@
 //! What addresses are for: finalizing keeps the place that is named, and an accepted access reaches it.
 
+#![tactic(auto)]
+
 ghost use Rattle.address_law.specs.Standing.{FinalizingStands};
 ghost use Rattle.address_law.specs.Reaching.{AccessesReach};
 

@@ -1,6 +1,8 @@
 //! Writes instructions of a realistic mix by a catalogue, reads each back, and tells the time of both on the standard error stream.
 //! The number of instructions is the first argument, a million where there is none.
 
+#![tactic(auto)]
+
 use catalogue::catalogue::Catalogue;
 use codec::encode::Encoded;
 use form::Form;

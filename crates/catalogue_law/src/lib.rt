@@ -1,5 +1,7 @@
 //! What a catalogue of opcodes means, and its laws.
 
+#![tactic(auto)]
+
 ghost use Rattle.catalogue_law.specs.Catalogue.{SoundnessIsKept};
 ghost use Rattle.catalogue_law.specs.Laws.{OneEntry, WrittenIsReadBack, ReadIsWrittenAgain};
 

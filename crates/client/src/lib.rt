@@ -1,5 +1,7 @@
 //! A caller of a section: a routine that is written by a fixed list of calls, and the bytes that closing promises for it.
 
+#![tactic(auto)]
+
 ghost use Rattle.std.specs.Prelude.{◌≡◌, ◌⊎◌, Ok, Err};
 ghost use Rattle.refusal.specs.declared.Reason.TheVariants as why;
 ghost use Rattle.refusal.specs.Refusals.{refused_at};

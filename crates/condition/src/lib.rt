@@ -1,5 +1,7 @@
 //! Conditions: comparing integers, and branching on the condition code.
 
+#![tactic(auto)]
+
 pub mod cond;
 pub mod condcodes;
 #[cfg(test)]

@@ -2,6 +2,8 @@
 //! its kind or does not exist, zero bytes and the number of the refusal OPERAND. Opcodes, masks, displacements and distances are cut to
 //! their digits.
 
+#![tactic(auto)]
+
 ghost use Rattle.std.specs.Prelude.{◌≡◌, [], ◌∷◌, pos};
 ghost use Rattle.form.specs.declared.Form.TheVariants.{VriA, VriB, VriC, VriK, VrrA, VrrB, VrrC, VrrD, VrrE, VrrF, VrsA, VrsB, VrsC, Vrx};
 ghost use Rattle.form.specs.Encoders.{encoder, register, numeral};

@@ -1,5 +1,7 @@
 //! The label family and the relocation family. Both overwrite the field.
 
+#![tactic(auto)]
+
 ghost use Rattle.std.specs.Prelude.{◌≡◌, true};
 ghost use Rattle.field.specs.Family.{BothFamiliesServe};
 

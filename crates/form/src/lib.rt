@@ -1,5 +1,7 @@
 //! The instruction forms: their rows of hexadecimal digits, the kinds of their operands, and encoding and decoding by them.
 
+#![tactic(auto)]
+
 ghost use Rattle.form.specs.Specimens.{InstructionSpecimens};
 
 pub mod instr;

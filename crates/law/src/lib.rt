@@ -1,6 +1,8 @@
 //! The calls on a section, as steps over plain lists; the inventory that a list of calls tells; and the law: a finished section says exactly
 //! what the calls have put in.
 
+#![tactic(auto)]
+
 ghost use Rattle.law.specs.Law.{Law, InventoryMatches};
 
 /// Along every run of calls from an opened section the section holds what the inventory tells.

@@ -1,5 +1,7 @@
 //! Reads finished code, one instruction after another, by a catalogue.
 
+#![tactic(auto)]
+
 ghost use Rattle.std.specs.Prelude.{◌≡◌, ◌≤◌, length};
 ghost use Rattle.catalogue_law.specs.Catalogue.{read_step};
 ghost use Rattle.catalogue.specs.Listed.{entries_in};

@@ -1,3 +1,5 @@
+#![tactic(auto)]
+
 ghost use Rattle.std.specs.Prelude.{◌≡◌, Some};
 ghost use Rattle.refusal.specs.Refusals.{number_of, layer_of, refused_at, distance_refused_at, placed};
 ghost use Rattle.refusal.specs.Names.{reason_text, layer_text, refusal_text};

@@ -11,6 +11,8 @@
 //! `admit FORM OPCODE` adds an opcode to the catalogue, which holds LGFI, LA, LAY and LARL at the start, and answers `ok`. `read BYTES` reads the
 //! instruction that up to eight bytes begin with, and answers its form, opcode and six operands; `read -` has no bytes, and answers `none`.
 
+#![tactic(auto)]
+
 use address::frame::Frame;
 use answer::Answer;
 use catalogue::catalogue::Catalogue;

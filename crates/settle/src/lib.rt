@@ -1,5 +1,7 @@
 //! Settling: the fields of all uses are checked, and then each is filled with its distance, by any two families.
 
+#![tactic(auto)]
+
 ghost use Rattle.std.specs.Prelude.{◌≡◌, pos, ◌+ℤ◌, ◌-ℤ◌};
 ghost use Rattle.refusal.specs.Refusals.{answered};
 ghost use Rattle.field.specs.Family.{family};

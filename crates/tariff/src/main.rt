@@ -1,6 +1,8 @@
 //! Encodes a short price routine and prints each instruction: a parcel's weight in grams comes in register 3, and its price in cents goes
 //! out in register 2, 350 up to 500 grams, 590 up to 2000 grams, −1 above.
 
+#![tactic(auto)]
+
 use condition::cond::Cond;
 use condition::condcodes::IntCC;
 use enc_imm::{enc_ri_a, enc_ri_c, enc_ril_a};

@@ -9,4 +9,4 @@ pub returns : goal.returns
 returns c =
     let e1 : gpr c.args.r1 ≡ true = search rules in
     simp (digits, e1)
-    (simp (c.copy-from-slice.ensures.after, c.to-be-bytes.ensures, bytes))
+    (simp (c.copy_from_slice.ensures.after, c.to_be_bytes.ensures, bytes))

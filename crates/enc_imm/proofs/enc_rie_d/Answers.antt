@@ -10,4 +10,4 @@ returns c =
     let e1 : gpr c.args.r1 ≡ true = search rules in
     let e2 : gpr c.args.r3 ≡ true = search rules in
     simp (digits, e1, e2)
-    (simp (c.copy-from-slice.ensures.after, c.to-be-bytes.ensures, bytes))
+    (simp (c.copy_from_slice.ensures.after, c.to_be_bytes.ensures, bytes))

@@ -10,4 +10,4 @@ returns c =
     let h1 = high c.args.v1 e1 in
     let x : c.rxb-rxb.result < 16 = c.rxb-rxb.ensures.small in
     simp (digits, e1)
-    (simp (c.copy-from-slice.ensures.after, c.to-be-bytes.ensures, c.rxb-rxb.ensures.is, h1, bytes))
+    (simp (c.copy_from_slice.ensures.after, c.to_be_bytes.ensures, c.rxb-rxb.ensures.is, h1, bytes))

@@ -12,4 +12,4 @@ returns c =
     let h2 = high c.args.v3 e2 in
     let x : c.rxb-rxb.result < 16 = c.rxb-rxb.ensures.small in
     simp (digits, e1, e2)
-    (simp (c.copy-from-slice.ensures.after, c.to-be-bytes.ensures, c.rxb-rxb.ensures.is, h1, h2, bytes))
+    (simp (c.copy_from_slice.ensures.after, c.to_be_bytes.ensures, c.rxb-rxb.ensures.is, h1, h2, bytes))

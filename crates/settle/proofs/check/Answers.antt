@@ -12,17 +12,17 @@ pub loop-field-preserved : goal.loop-field-preserved
 loop-field-preserved g c =
     checked_more (family g.L.FieldRead.fields g.L.FieldPatch.patched) (family g.S.FieldRead.fields g.S.FieldPatch.patched)
     (place_of (labels_in c.args.labels.now) c.args.symbols.now) c.args.code.now c.args.uses.now c.loop-field.field-index
-    c.loop-field-test.true c.loop-field.invariant c.distance-of-wanted.result c.distance-of-wanted.ensures c.in-ok-plan-use.field-0
-    (sym c.in-ok-plan-use.was ∙ c.plan-use.ensures)
+    c.loop-field-test.true c.loop-field.invariant c.distance_of-wanted.result c.distance_of-wanted.ensures c.in_ok-plan_use.field-0
+    (sym c.in_ok-plan_use.was ∙ c.plan_use.ensures)
 
-pub returns-in-err-plan-use : goal.returns-in-err-plan-use
-returns-in-err-plan-use g c =
-    let e : ◌≡◌ {A = Answer} (Err c.in-err-plan-use.field-0.0) (answered (uses_refusal (family g.L.FieldRead.fields g.L.FieldPatch.patched) (family g.S.FieldRead.fields g.S.FieldPatch.patched) (place_of (labels_in c.args.labels.now) c.args.symbols.now) c.args.code.now c.args.uses.now) tt) =
+pub returns-in_err-plan_use : goal.returns-in_err-plan_use
+returns-in_err-plan_use g c =
+    let e : ◌≡◌ {A = Answer} (Err c.in_err-plan_use.field-0.0) (answered (uses_refusal (family g.L.FieldRead.fields g.L.FieldPatch.patched) (family g.S.FieldRead.fields g.S.FieldPatch.patched) (place_of (labels_in c.args.labels.now) c.args.symbols.now) c.args.code.now c.args.uses.now) tt) =
     checked_stop (family g.L.FieldRead.fields g.L.FieldPatch.patched) (family g.S.FieldRead.fields g.S.FieldPatch.patched)
     (place_of (labels_in c.args.labels.now) c.args.symbols.now) c.args.code.now c.args.uses.now c.loop-field.field-index
-    c.loop-field-test.true c.loop-field.invariant c.distance-of-wanted.result c.distance-of-wanted.ensures c.in-err-plan-use.field-0.0
-    (sym c.in-err-plan-use.was ∙ c.plan-use.ensures) in
-    record { answers = search rules; bytes = All-from_get_or (λ b. b < 256) c.args.code.now 0 (λ i h. let f : Fits w8 (get_or c.args.code.now i 0) = c.type-inv.code i in omega arith) }
+    c.loop-field-test.true c.loop-field.invariant c.distance_of-wanted.result c.distance_of-wanted.ensures c.in_err-plan_use.field-0.0
+    (sym c.in_err-plan_use.was ∙ c.plan_use.ensures) in
+    record { answers = search rules; bytes = All-from_get_or (λ b. b < 256) c.args.code.now 0 (λ i h. let f : Fits w8 (get_or c.args.code.now i 0) = c.type_inv.code i in omega arith) }
 
 pub returns : goal.returns
 returns g c =
@@ -31,5 +31,5 @@ returns g c =
           all_checked (family g.L.FieldRead.fields g.L.FieldPatch.patched) (family g.S.FieldRead.fields g.S.FieldPatch.patched)
           (place_of (labels_in c.args.labels.now) c.args.symbols.now) c.args.code.now c.args.uses.now
           c.loop-field.field-index c.loop-field-test.false c.loop-field.invariant;
-      bytes = All-from_get_or (λ b. b < 256) c.args.code.now 0 (λ i h. let f : Fits w8 (get_or c.args.code.now i 0) = c.type-inv.code i in omega arith);
+      bytes = All-from_get_or (λ b. b < 256) c.args.code.now 0 (λ i h. let f : Fits w8 (get_or c.args.code.now i 0) = c.type_inv.code i in omega arith);
     }

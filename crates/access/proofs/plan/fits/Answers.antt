@@ -6,10 +6,10 @@ use Rattle.access.specs.Written.{stays_relative}
 use Rattle.access.proofs.Planning.{relative_left}
 use Rattle.access.proofs.plan.fits.Goals as goal
 
-pub returns-then-registers-fit : goal.returns-then-registers-fit
-returns-then-registers-fit c fr =
+pub returns-then-registers_fit : goal.returns-then-registers_fit
+returns-then-registers_fit c fr =
     let a = c.args.access.now in
     let mi = permitted a c.args.may_trap in
-    let r : c.stays-relative-relative.result ≡ not (displaced (finalize standard mi fr c.args.mem.now).1) =
-    c.stays-relative-relative.ensures fr ∙ ap (λ i. stays_relative i (mode standard fr c.args.mem.now)) c.permitted.ensures ∙ sym (relative_left mi fr c.args.mem.now) in
-    c.data_fits.ensures ∙ ap (data_fits a) r ∙ ap (λ b. b && data_fits a (not (displaced (finalize standard mi fr c.args.mem.now).1))) c.if-registers-fit.ensures
+    let r : c.stays_relative-relative.result ≡ not (displaced (finalize standard mi fr c.args.mem.now).1) =
+    c.stays_relative-relative.ensures fr ∙ ap (λ i. stays_relative i (mode standard fr c.args.mem.now)) c.permitted.ensures ∙ sym (relative_left mi fr c.args.mem.now) in
+    c.data_fits.ensures ∙ ap (data_fits a) r ∙ ap (λ b. b && data_fits a (not (displaced (finalize standard mi fr c.args.mem.now).1))) c.if-registers_fit.ensures

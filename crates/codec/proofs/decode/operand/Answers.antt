@@ -9,8 +9,8 @@ use Rattle.codec.specs.Digits.{operand_at}
 use Rattle.codec.proofs.Sums.{row_lengths, get_d_any}
 use Rattle.codec.proofs.decode.operand.Goals as goal
 
-pub field-of-requires : goal.field-of-requires
-field-of-requires c =
+pub field_of-requires : goal.field_of-requires
+field_of-requires c =
     let l = row_lengths c.args.form c.row.result.now c.args.bytes.now c.row.ensures.is c.requires in
     (l.0, (l.1, c.row.ensures.low))
 
@@ -24,6 +24,6 @@ joined ks hs ds xs i n z e lt f h =
 pub returns-then-i-kinds : goal.returns-then-i-kinds
 returns-then-i-kinds c =
     let e : c.number.result ≡ operand_at (form.kinds c.args.form) (form.row c.args.form) (nibbles c.args.bytes.now) c.args.i =
-    joined (form.kinds c.args.form) c.kinds-kinds.result.now (form.row c.args.form) (nibbles c.args.bytes.now) c.args.i c.field-of.result c.number.result
-    c.kinds-kinds.ensures c.if-i-kinds.true (c.field-of.ensures.is ∙ ap (λ (ds : List form.Digit). field_of c.args.i ds (nibbles c.args.bytes.now)) c.row.ensures.is) c.number.ensures in
-    to_z-of_z w64 c.number.result (record { sfits = c.number.type-inv }) ∙ e
+    joined (form.kinds c.args.form) c.kinds-kinds.result.now (form.row c.args.form) (nibbles c.args.bytes.now) c.args.i c.field_of.result c.number.result
+    c.kinds-kinds.ensures c.if-i-kinds.true (c.field_of.ensures.is ∙ ap (λ (ds : List form.Digit). field_of c.args.i ds (nibbles c.args.bytes.now)) c.row.ensures.is) c.number.ensures in
+    to_z-of_z w64 c.number.result (record { sfits = c.number.type_inv }) ∙ e

@@ -8,4 +8,4 @@ pub returns : goal.returns
 returns c =
     let z = get_or c.args.z.now c.args.i (pos 0) in
     let f : SFits w64 (get_or c.args.z.now c.args.i (pos 0)) = search rules in
-    ap (λ (n : ℕ). bit_and n 65535) (c.cast-unsigned.ensures ∙ ap (of_z w64) (to_z-of_z w64 z f)) ∙ low_16 z f
+    ap (λ (n : ℕ). bit_and n 65535) (c.cast_unsigned.ensures ∙ ap (of_z w64) (to_z-of_z w64 z f)) ∙ low_16 z f

@@ -4,4 +4,4 @@ use Rattle.finalize.proofs.Finalizing.{sum_is}
 use Rattle.finalize.proofs.finalize.sum_of.Goals as goal
 
 pub returns : goal.returns
-returns c = sum_is c.args.v.now _ c.checked-add.result (omega arith) (omega (arith, ints)) c.checked-add.ensures
+returns c = sum_is c.args.v.now _ c.checked_add.result (omega arith) (omega (arith, ints)) c.checked_add.ensures

@@ -11,16 +11,16 @@ returns-then-place-code c =
       of = refl;
     }
 
-pub overflow-sub-self : goal.overflow-sub-self
-overflow-sub-self c =
-    no_longer c.args.self.now.code.now c.read-one-answer.result.1.now c.args.self.now.place (taken c.read-one-answer.result.0) c.read-one-answer.ensures.rest
+pub overflow_sub-self : goal.overflow_sub-self
+overflow_sub-self c =
+    no_longer c.args.self.now.code.now c.read_one-answer.result.1.now c.args.self.now.place (taken c.read_one-answer.result.0) c.read_one-answer.ensures.rest
 
 pub returns : goal.returns
 returns c =
     record {
       step =
-          stepped (entries_in c.args.self.now.catalogue.now) c.args.self.now.code.now c.read-one-answer.result.1.now c.args.self.now.place c.read-one-answer.result.0
-          c.if-place-code.false c.read-one-answer.ensures.answers c.read-one-answer.ensures.rest c.read-one-answer.ensures.within;
+          stepped (entries_in c.args.self.now.catalogue.now) c.args.self.now.code.now c.read_one-answer.result.1.now c.args.self.now.place c.read_one-answer.result.0
+          c.if-place-code.false c.read_one-answer.ensures.answers c.read_one-answer.ensures.rest c.read_one-answer.ensures.within;
       by = refl;
       of = refl;
     }

@@ -8,4 +8,4 @@ returns c =
     let p = c.args.self.now in
     let a = size_append (listed p.first ++ listed p.second) (p.access ∷ []) in
     let b = size_append (listed p.first) (listed p.second) in
-    omega (arith, c.size-of.ensures.is, c.size-of-2.ensures.is, c.size-of-3.ensures.is)
+    omega (arith, c.size_of.ensures.is, c.size_of-2.ensures.is, c.size_of-3.ensures.is)

@@ -6,14 +6,14 @@ use Rattle.catalogue_law.specs.Catalogue.{misfit, clashes, sound, admit_refusal}
 use Rattle.catalogue_law.proofs.Sound.{sound_admitted}
 use Rattle.catalogue.proofs.catalogue.Catalogue.admit.Goals as goal
 
-pub invariant-of-self : goal.invariant-of-self
-invariant-of-self c =
+pub invariant_of-self : goal.invariant_of-self
+invariant_of-self c =
     let es : List Entry = vec_items c.args.self.now.entries in
     let m : misfit c.args.form c.args.opcode ≡ false = sym c.if-misfit.ensures in
     let a : any (clashes c.args.form c.args.opcode) es ≡ false =
-    ap (any (clashes c.args.form c.args.opcode)) (sym c.deref.ensures.value) ∙ sym c.if-any-clash.ensures in
+    ap (any (clashes c.args.form c.args.opcode)) (sym c.deref.ensures.value) ∙ sym c.if-any_clash.ensures in
     let k = c.args.self.now.entries.ok.0 in
     let s : length es < 512 = omega arith in
     let f : leb 512 (length es) ≡ false = lt-leb 512 (length es) s in
     let n : admit_refusal es c.args.form c.args.opcode ≡ None = rw (m, a, f) in
-    (search rules, (ap sound c.push-reserved.ensures.items ∙ sound_admitted es c.args.form c.args.opcode c.args.self.now.sound n, tt))
+    (search rules, (ap sound c.push_reserved.ensures.items ∙ sound_admitted es c.args.form c.args.opcode c.args.self.now.sound n, tt))

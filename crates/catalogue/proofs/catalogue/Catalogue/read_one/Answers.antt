@@ -4,9 +4,9 @@ use Rattle.catalogue.proofs.catalogue.Catalogue.read_one.Goals as goal
 pub returns : goal.returns
 returns c =
     let bytes = c.args.bytes.now in
-    let count = c.size-read-count.result in
+    let count = c.size_read-count.result in
     record {
       answers = c.first-answer.ensures.is;
-      rest = take_all (length bytes - count) (drop count bytes) (simp length-drop (omega arith)) ∙ ap (λ (n : ℕ). drop n bytes) c.size-read-count.ensures;
+      rest = take_all (length bytes - count) (drop count bytes) (simp length-drop (omega arith)) ∙ ap (λ (n : ℕ). drop n bytes) c.size_read-count.ensures;
       within = c.first-answer.ensures.within;
     }

@@ -9,23 +9,23 @@ use Rattle.families.specs.Families.{label_short, label_long, label_short_fits, l
 use Rattle.families.proofs.Ready.{Ready, ready, passed, answers, leaves}
 use Rattle.families.proofs.labels.LabelsFieldPatch.patch.Goals as goal
 
-pub returns-in-err-checked-distance : goal.returns-in-err-checked-distance
-returns-in-err-checked-distance c =
+pub returns-in_err-checked_distance : goal.returns-in_err-checked_distance
+returns-in_err-checked_distance c =
     let d : ℤ = c.args.distance in
-    let e : FieldRefusal = c.in-err-checked-distance.field-0.0 in
+    let e : FieldRefusal = c.in_err-checked_distance.field-0.0 in
     let f : SFits w64 d = c.ranges.distance in
     let f' : SFits w128 d = search rules in
-    let h : ◌≡◌ {A = Result ℤ FieldRefusal} (Err e) (answered (refuses label_family.fields c.args.kind (length c.args.bytes.now) d) d) = simp to_z-of_z at (sym c.in-err-checked-distance.was ∙ c.checked-distance.ensures) in
+    let h : ◌≡◌ {A = Result ℤ FieldRefusal} (Err e) (answered (refuses label_family.fields c.args.kind (length c.args.bytes.now) d) d) = simp to_z-of_z at (sym c.in_err-checked_distance.was ∙ c.checked_distance.ensures) in
     let k = refused_answer (refuses label_family.fields c.args.kind (length c.args.bytes.now) d) d e h in
-    record { answers = search rules; holds = λ r _. not_accepted c.from-residual.result c.from-residual.ensures.0 r; leaves = refused_leaves (refuses label_family.fields c.args.kind (length c.args.bytes.now) d) d e h (label_family.patched c.args.kind c.args.bytes.now d) c.args.bytes.now }
+    record { answers = search rules; holds = λ r _. not_accepted c.from_residual.result c.from_residual.ensures.0 r; leaves = refused_leaves (refuses label_family.fields c.args.kind (length c.args.bytes.now) d) d e h (label_family.patched c.args.kind c.args.bytes.now d) c.args.bytes.now }
 
-pub put-half-requires : goal.put-half-requires
-put-half-requires c =
+pub put_half-requires : goal.put_half-requires
+put_half-requires c =
     let d : ℤ = c.args.distance in
     let f : SFits w64 d = c.ranges.distance in
     let f' : SFits w128 d = search rules in
-    let h : ◌≡◌ {A = Result ℤ FieldRefusal} (Ok c.in-ok-checked-distance.field-0) (answered (refuses label_family.fields c.args.kind (length c.args.bytes.now) d) d) = simp to_z-of_z at c.in-ok-checked-distance.ensures in
-    let q = ready label_family c.args.kind c.args.bytes.now d c.in-ok-checked-distance.field-0 h refl label_short (ap label_table c.in-1.is) in
+    let h : ◌≡◌ {A = Result ℤ FieldRefusal} (Ok c.in_ok-checked_distance.field-0) (answered (refuses label_family.fields c.args.kind (length c.args.bytes.now) d) d) = simp to_z-of_z at c.in_ok-checked_distance.ensures in
+    let q = ready label_family c.args.kind c.args.bytes.now d c.in_ok-checked_distance.field-0 h refl label_short (ap label_table c.in-1.is) in
     let r : Ready label_short (length c.args.bytes.now) (to_z w64 (of_z w64 d)) = subst (Ready label_short (length c.args.bytes.now)) (sym (to_z-of_z w64 d f)) q in
     record { room = r.room; low = search rules; high = search rules; even = search rules }
 
@@ -36,21 +36,21 @@ returns-in-1 c =
     let f' : SFits w128 d = search rules in
     let k : ℕ = c.args.kind in
     let bytes : List ℕ = c.args.bytes.now in
-    let h : ◌≡◌ {A = Result ℤ FieldRefusal} (Ok c.in-ok-checked-distance.field-0) (answered (refuses label_family.fields k (length bytes) d) d) = simp to_z-of_z at c.in-ok-checked-distance.ensures in
+    let h : ◌≡◌ {A = Result ℤ FieldRefusal} (Ok c.in_ok-checked_distance.field-0) (answered (refuses label_family.fields k (length bytes) d) d) = simp to_z-of_z at c.in_ok-checked_distance.ensures in
     let done : c.put_half.new.bytes ≡ label_family.patched k bytes d = c.put_half.ensures ∙ ap (overwrite 2 2 2 bytes) (to_z-of_z w64 d f) ∙ ap (λ (n : ℕ). label_family.patched n bytes d) (sym c.in-1.is) in
     record {
-      answers = answers label_family k bytes d c.in-ok-checked-distance.field-0 h;
-      leaves = leaves label_family k bytes d c.in-ok-checked-distance.field-0 h c.put_half.new.bytes done;
-      holds = λ _ _. overwriting_held 2 label_table k label_short bytes d (omega arith) (ap label_table c.in-1.is) label_short_fits (passed label_family k bytes d c.in-ok-checked-distance.field-0 h) c.put_half.new.bytes done;
+      answers = answers label_family k bytes d c.in_ok-checked_distance.field-0 h;
+      leaves = leaves label_family k bytes d c.in_ok-checked_distance.field-0 h c.put_half.new.bytes done;
+      holds = λ _ _. overwriting_held 2 label_table k label_short bytes d (omega arith) (ap label_table c.in-1.is) label_short_fits (passed label_family k bytes d c.in_ok-checked_distance.field-0 h) c.put_half.new.bytes done;
     }
 
-pub put-word-requires : goal.put-word-requires
-put-word-requires c =
+pub put_word-requires : goal.put_word-requires
+put_word-requires c =
     let d : ℤ = c.args.distance in
     let f : SFits w64 d = c.ranges.distance in
     let f' : SFits w128 d = search rules in
-    let h : ◌≡◌ {A = Result ℤ FieldRefusal} (Ok c.in-ok-checked-distance.field-0) (answered (refuses label_family.fields c.args.kind (length c.args.bytes.now) d) d) = simp to_z-of_z at c.in-ok-checked-distance.ensures in
-    let q = ready label_family c.args.kind c.args.bytes.now d c.in-ok-checked-distance.field-0 h refl label_long (ap label_table c.in-2.is) in
+    let h : ◌≡◌ {A = Result ℤ FieldRefusal} (Ok c.in_ok-checked_distance.field-0) (answered (refuses label_family.fields c.args.kind (length c.args.bytes.now) d) d) = simp to_z-of_z at c.in_ok-checked_distance.ensures in
+    let q = ready label_family c.args.kind c.args.bytes.now d c.in_ok-checked_distance.field-0 h refl label_long (ap label_table c.in-2.is) in
     let r : Ready label_long (length c.args.bytes.now) (to_z w64 (of_z w64 d)) = subst (Ready label_long (length c.args.bytes.now)) (sym (to_z-of_z w64 d f)) q in
     record { room = r.room; low = search rules; high = search rules; even = search rules }
 
@@ -61,10 +61,10 @@ returns-in-2 c =
     let f' : SFits w128 d = search rules in
     let k : ℕ = c.args.kind in
     let bytes : List ℕ = c.args.bytes.now in
-    let h : ◌≡◌ {A = Result ℤ FieldRefusal} (Ok c.in-ok-checked-distance.field-0) (answered (refuses label_family.fields k (length bytes) d) d) = simp to_z-of_z at c.in-ok-checked-distance.ensures in
-    let done : c.put-word.new.bytes ≡ label_family.patched k bytes d = c.put-word.ensures ∙ ap (overwrite 2 2 4 bytes) (to_z-of_z w64 d f) ∙ ap (λ (n : ℕ). label_family.patched n bytes d) (sym c.in-2.is) in
+    let h : ◌≡◌ {A = Result ℤ FieldRefusal} (Ok c.in_ok-checked_distance.field-0) (answered (refuses label_family.fields k (length bytes) d) d) = simp to_z-of_z at c.in_ok-checked_distance.ensures in
+    let done : c.put_word.new.bytes ≡ label_family.patched k bytes d = c.put_word.ensures ∙ ap (overwrite 2 2 4 bytes) (to_z-of_z w64 d f) ∙ ap (λ (n : ℕ). label_family.patched n bytes d) (sym c.in-2.is) in
     record {
-      answers = answers label_family k bytes d c.in-ok-checked-distance.field-0 h;
-      leaves = leaves label_family k bytes d c.in-ok-checked-distance.field-0 h c.put-word.new.bytes done;
-      holds = λ _ _. overwriting_held 2 label_table k label_long bytes d (omega arith) (ap label_table c.in-2.is) label_long_fits (passed label_family k bytes d c.in-ok-checked-distance.field-0 h) c.put-word.new.bytes done;
+      answers = answers label_family k bytes d c.in_ok-checked_distance.field-0 h;
+      leaves = leaves label_family k bytes d c.in_ok-checked_distance.field-0 h c.put_word.new.bytes done;
+      holds = λ _ _. overwriting_held 2 label_table k label_long bytes d (omega arith) (ap label_table c.in-2.is) label_long_fits (passed label_family k bytes d c.in_ok-checked_distance.field-0 h) c.put_word.new.bytes done;
     }

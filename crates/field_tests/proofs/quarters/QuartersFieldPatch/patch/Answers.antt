@@ -17,11 +17,11 @@ returns-then-kind-eq0 c =
     let k : ℕ = c.args.kind in
     let bytes : List ℕ = c.args.bytes.now in
     let e : k ≡ 0 = search rules in
-    let h : ◌≡◌ {A = Result ℤ FieldRefusal} (Ok c.in-ok-checked-distance.field-0) (answered (refuses quarter_family.fields k (length bytes) d) d) = simp to_z-of_z at c.in-ok-checked-distance.ensures in
-    let none = passed_none (refuses quarter_family.fields k (length bytes) d) c.in-ok-checked-distance.field-0 d h in
-    let done : c.put-middle.new.bytes ≡ quarter_family.patched k bytes d = simp to_z-of_z at c.put-middle.ensures ∙ ap (λ (n : ℕ). quarter_family.patched n bytes d) (sym e) in
+    let h : ◌≡◌ {A = Result ℤ FieldRefusal} (Ok c.in_ok-checked_distance.field-0) (answered (refuses quarter_family.fields k (length bytes) d) d) = simp to_z-of_z at c.in_ok-checked_distance.ensures in
+    let none = passed_none (refuses quarter_family.fields k (length bytes) d) c.in_ok-checked_distance.field-0 d h in
+    let done : c.put_middle.new.bytes ≡ quarter_family.patched k bytes d = simp to_z-of_z at c.put_middle.ensures ∙ ap (λ (n : ℕ). quarter_family.patched n bytes d) (sym e) in
     record {
       answers = search rules;
       leaves = search rules;
-      holds = λ _ _. overwriting_held 4 (one_kind 0 quarter_info) k quarter_info bytes d (omega arith) (ap (one_kind 0 quarter_info) e) quarter_fits none c.put-middle.new.bytes done;
+      holds = λ _ _. overwriting_held 4 (one_kind 0 quarter_info) k quarter_info bytes d (omega arith) (ap (one_kind 0 quarter_info) e) quarter_fits none c.put_middle.new.bytes done;
     }

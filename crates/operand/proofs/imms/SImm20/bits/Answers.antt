@@ -13,4 +13,4 @@ pub returns : goal.returns
 returns c =
     let z = c.args.self.now.value in
     let f : SFits w32 z = search rules in
-    and_mask c.cast-unsigned-encoded.result 20 ∙ (ap (λ n. n % 2 ^ 20) (c.cast-unsigned-encoded.ensures ∙ ap (of_z w32) (to_z-of_z w32 z f)) ∙ low z f)
+    and_mask c.cast_unsigned-encoded.result 20 ∙ (ap (λ n. n % 2 ^ 20) (c.cast_unsigned-encoded.ensures ∙ ap (of_z w32) (to_z-of_z w32 z f)) ∙ low z f)

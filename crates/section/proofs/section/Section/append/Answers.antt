@@ -13,5 +13,5 @@ returns-in-Ok g c es =
     let n = c.args.encoded.now.count in
     let s = state c.args.self.now es c.args.code.now in
     accepted (first_refusal (end_checks b (leaves_use c.args.aim) n)) tt s (extended s c.args.encoded.now c.args.aim) (state c.extend.new.self es c.extend.new.code)
-    (subst (λ (a : Bool). ◌≡◌ {A = Result (Unit {0}) Reason} (Ok tt) (answered (first_refusal (end_checks b a n)) tt)) (c.is-some.ensures ∙ aimed_is c.args.aim) c.in-Ok.ensures)
+    (subst (λ (a : Bool). ◌≡◌ {A = Result (Unit {0}) Reason} (Ok tt) (answered (first_refusal (end_checks b a n)) tt)) (c.is_some.ensures ∙ aimed_is c.args.aim) c.in-Ok.ensures)
     (c.extend.ensures es)

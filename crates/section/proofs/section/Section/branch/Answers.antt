@@ -16,4 +16,4 @@ returns g c es =
     let s = state c.args.self.now es c.args.code.now in
     past_two (branches c.args.form) (is_usable (slot_of (labels_in c.args.self.now.labels) c.args.label)) why.Form why.Label
     (first_refusal (end_checks s.books true c.args.encoded.now.count)) tt s (extended s c.args.encoded.now (Some (to_label c.args.label)))
-    c.if-not-is-branch.ensures (c.if-not-is-usable.ensures ∙ ap (λ (x : Slot). is_usable x) c.slot.ensures) (c.append.ensures es)
+    c.if-not-is_branch.ensures (c.if-not-is_usable.ensures ∙ ap (λ (x : Slot). is_usable x) c.slot.ensures) (c.append.ensures es)

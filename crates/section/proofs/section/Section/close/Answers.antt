@@ -13,7 +13,7 @@ returns-in-Ok g c =
     let l : Family = family g.L.FieldRead.fields g.L.FieldPatch.patched in
     let m : Family = family g.S.FieldRead.fields g.S.FieldPatch.patched in
     let step : (es : List Entry) → Closes l m (state c.args.self es c.args.code.now) c.args.symbols.now (Ok tt) c.settle.new.code =
-    λ es. closed l m (state c.args.self es c.args.code.now) c.args.symbols.now c.as-slice.result.now (sym c.if-is-other.ensures) c.as-slice.ensures c.in-Ok.ensures in
+    λ es. closed l m (state c.args.self es c.args.code.now) c.args.symbols.now c.as_slice.result.now (sym c.if-is_other.ensures) c.as_slice.ensures c.in-Ok.ensures in
     record {
       step = step;
       ends = (refl, refl);

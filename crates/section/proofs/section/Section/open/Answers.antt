@@ -7,11 +7,11 @@ use Rattle.book.specs.Books.{Books}
 use Rattle.section.proofs.Steps.{too_long}
 use Rattle.section.proofs.section.Section.open.Goals as goal
 
-pub returns-then-room-gt-LARGEST-BUFFER : goal.returns-then-room-gt-LARGEST-BUFFER
-returns-then-room-gt-LARGEST-BUFFER g c =
+pub returns-then-room-gt-LARGEST_BUFFER : goal.returns-then-room-gt-LARGEST_BUFFER
+returns-then-room-gt-LARGEST_BUFFER g c =
     let lt : 1048576 < length c.args.code.now = omega arith in
     let e : ◌≡◌ {A = Result Books Refusal} (Err c.at.result) (Err (refused_at 0 why.Buffer)) = ap (λ (x : Refusal). Err x) c.at.ensures in
     inl (e ∙ too_long g.L.FieldRead.fields g.S.FieldRead.fields c.args.code.now (lt-ltb 1048576 (length c.args.code.now) lt))
 
-pub returns-then-not-both-serve : goal.returns-then-not-both-serve
-returns-then-not-both-serve g c = inl (search rules)
+pub returns-then-not-both_serve : goal.returns-then-not-both_serve
+returns-then-not-both_serve g c = inl (search rules)

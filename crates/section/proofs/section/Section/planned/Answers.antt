@@ -23,5 +23,5 @@ returns-in-Ok g c =
     let p : Plan = plan standard c.args.access.now c.args.may_trap c.args.mem.now c.args.frame.now in
     let lost : Bool = lost_label (labels_in c.args.self.now.labels) p.target in
     let ds : Checks = address_checks standard p ++ why.Label when lost ∷ target_checks p in
-    c.plan.ensures.writes ∙ ap (λ (b : Bool). answered (planning_refusal standard p b) p.items) (c.names-lost.ensures c.args.frame.now)
+    c.plan.ensures.writes ∙ ap (λ (b : Bool). answered (planning_refusal standard p b) p.items) (c.names_lost.ensures c.args.frame.now)
     ∙ ap (λ (o : Option Reason). answered o p.items) (sym (ok_first (opcode_checks (entries_in c.args.catalogue.now) (opcodes c.args.access.now)) ds tt c.in-Ok.ensures))

@@ -14,7 +14,7 @@ pub append-requires : goal.append-requires
 append-requires g c =
     let es = entries_in c.args.catalogue.now in
     record {
-      ours = ours (state c.args.self.now es c.args.code.now) (sym c.if-is-other.ensures);
+      ours = ours (state c.args.self.now es c.args.code.now) (sym c.if-is_other.ensures);
       short =
           few c.args.form c.args.opcode c.args.operands.now c.args.self.now.len
           (first_refusal (put_checks es c.args.form c.args.opcode c.args.operands.now)) c.in-Ok.ensures;
@@ -28,7 +28,7 @@ returns-in-Err g c =
     record {
       step =
           not_written s (put_checks es c.args.form c.args.opcode c.args.operands.now) (space_checks s.books None ws) tt
-          (encoded c.args.form c.args.opcode c.args.operands.now) (written s ws) c.in-Err.refusal (sym c.if-is-other.ensures) c.in-Err.ensures;
+          (encoded c.args.form c.args.opcode c.args.operands.now) (written s ws) c.in-Err.refusal (sym c.if-is_other.ensures) c.in-Err.ensures;
       room = refl;
     }
 
@@ -39,6 +39,6 @@ returns-in-Ok g c =
     record {
       step =
           one_written s c.args.form c.args.opcode c.args.operands.now None (put_checks es c.args.form c.args.opcode c.args.operands.now)
-          (λ n. end_checks s.books false n) c.in-Ok.encoded (sym c.if-is-other.ensures) c.in-Ok.ensures (c.append.ensures es);
+          (λ n. end_checks s.books false n) c.in-Ok.encoded (sym c.if-is_other.ensures) c.in-Ok.ensures (c.append.ensures es);
       room = keeps_room (first_refusal (end_checks s.books false c.in-Ok.encoded.count)) (c.append.ensures es) refl;
     }

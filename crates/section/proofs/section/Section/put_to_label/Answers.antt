@@ -18,7 +18,7 @@ branch-self-requires g c =
     let es = entries_in c.args.catalogue.now in
     let zs = c.lone-operands.result in
     record {
-      ours = ours (state c.args.self.now es c.args.code.now) (sym c.if-is-other.ensures);
+      ours = ours (state c.args.self.now es c.args.code.now) (sym c.if-is_other.ensures);
       short =
           few c.args.form c.args.opcode zs c.args.self.now.len (first_refusal (put_checks es c.args.form c.args.opcode zs)) c.in-Ok.ensures;
     }
@@ -35,7 +35,7 @@ returns-in-Err g c =
     record {
       step =
           not_written s (first_checks es f o z) (aim_checks s.books f c.args.label (size f + 0)) tt enc (written s (to_branch f o z c.args.label)) c.in-Err.refusal
-          (sym c.if-is-other.ensures) (by_lone es f o z s.books.len c.lone-operands.result e c.in-Err.ensures);
+          (sym c.if-is_other.ensures) (by_lone es f o z s.books.len c.lone-operands.result e c.in-Err.ensures);
       room = refl;
     }
 
@@ -50,6 +50,6 @@ returns-in-Ok g c =
     record {
       step =
           one_written s f o (six (z ∷ [])) (Some (to_label c.args.label)) (first_checks es f o z) (aim_checks s.books f c.args.label) c.in-Ok.encoded
-          (sym c.if-is-other.ensures) (by_lone es f o z s.books.len c.lone-operands.result e c.in-Ok.ensures) (c.branch-self.ensures es);
+          (sym c.if-is_other.ensures) (by_lone es f o z s.books.len c.lone-operands.result e c.in-Ok.ensures) (c.branch-self.ensures es);
       room = keeps_room (first_refusal (aim_checks s.books f c.args.label c.in-Ok.encoded.count)) (c.branch-self.ensures es) refl;
     }

@@ -7,4 +7,4 @@ use Rattle.section.proofs.section.Section.write_if.Goals as goal
 
 pub returns-in-Some : goal.returns-in-Some
 returns-in-Some g c es =
-    c.write-item.ensures es ∙ ap (λ (o : Option Aimed). written (state c.args.self.now es c.args.code.now) (listed o)) (sym c.in-Some.is)
+    c.write_item.ensures es ∙ ap (λ (o : Option Aimed). written (state c.args.self.now es c.args.code.now) (listed o)) (sym c.in-Some.is)

@@ -10,25 +10,25 @@ use Rattle.section.proofs.section.accessing.check_opcodes.Goals as goal
 abbrev misfits : Entry → Bool
 misfits e = misfit e.form e.opcode
 
-pub returns-then-any-misfits : goal.returns-then-any-misfits
-returns-then-any-misfits c =
+pub returns-then-any_misfits : goal.returns-then-any_misfits
+returns-then-any_misfits c =
     let os = opcodes c.args.access.now in
     let held = λ (e : Entry). catalogued (entries_in c.args.catalogue.now) e.form e.opcode in
     let n : length c.opcodes.result ≡ 3 = search rules in
-    misfitting (any misfits os) (all held os) (any_given misfits c.opcodes.result os n c.opcodes.ensures ∙ sym c.if-any-misfits.ensures)
+    misfitting (any misfits os) (all held os) (any_given misfits c.opcodes.result os n c.opcodes.ensures ∙ sym c.if-any_misfits.ensures)
 
-pub returns-then-not-all-held : goal.returns-then-not-all-held
-returns-then-not-all-held c =
+pub returns-then-not-all_held : goal.returns-then-not-all_held
+returns-then-not-all_held c =
     let os = opcodes c.args.access.now in
     let held = λ (e : Entry). catalogued (entries_in c.args.catalogue.now) e.form e.opcode in
     let n : length c.opcodes.result ≡ 3 = search rules in
-    not_held (any misfits os) (all held os) (any_given misfits c.opcodes.result os n c.opcodes.ensures ∙ sym c.if-any-misfits.ensures)
-    (all_given held c.opcodes.result os n c.opcodes.ensures ∙ sym c.if-not-all-held.ensures)
+    not_held (any misfits os) (all held os) (any_given misfits c.opcodes.result os n c.opcodes.ensures ∙ sym c.if-any_misfits.ensures)
+    (all_given held c.opcodes.result os n c.opcodes.ensures ∙ sym c.if-not-all_held.ensures)
 
 pub returns : goal.returns
 returns c =
     let os = opcodes c.args.access.now in
     let held = λ (e : Entry). catalogued (entries_in c.args.catalogue.now) e.form e.opcode in
     let n : length c.opcodes.result ≡ 3 = search rules in
-    all_right (any misfits os) (all held os) (any_given misfits c.opcodes.result os n c.opcodes.ensures ∙ sym c.if-any-misfits.ensures)
-    (all_given held c.opcodes.result os n c.opcodes.ensures ∙ sym c.if-not-all-held.ensures)
+    all_right (any misfits os) (all held os) (any_given misfits c.opcodes.result os n c.opcodes.ensures ∙ sym c.if-any_misfits.ensures)
+    (all_given held c.opcodes.result os n c.opcodes.ensures ∙ sym c.if-not-all_held.ensures)

@@ -7,6 +7,6 @@ returns c =
     let n = c.args.encoded.now.count in
     let place = c.args.place in
     let bytes = take n c.args.encoded.now.bytes in
-    let e : c.copy-from-slice.new.self ≡ bytes = c.copy-from-slice.ensures.after in
-    let l : length bytes ≡ place + n - place = sym (ap length e) ∙ c.copy-from-slice.ensures.len ∙ simp (length-take, length-drop) (omega arith) in
-    put_mid-paste place (place + n - place) c.args.code.now c.copy-from-slice.new.self bytes (length bytes) e l refl
+    let e : c.copy_from_slice.new.self ≡ bytes = c.copy_from_slice.ensures.after in
+    let l : length bytes ≡ place + n - place = sym (ap length e) ∙ c.copy_from_slice.ensures.len ∙ simp (length-take, length-drop) (omega arith) in
+    put_mid-paste place (place + n - place) c.args.code.now c.copy_from_slice.new.self bytes (length bytes) e l refl
