@@ -9,8 +9,8 @@ returns-in-Ok g c =
     let d = c.in-Ok.distance in
     let f : SFits w64 d = search rules in
     fills_window (family g.F.FieldRead.fields g.F.FieldPatch.patched) c.args.field.now c.args.code.now c.args.wanted d (to_z w64 (of_z w64 d))
-    c.window_from.result.0 c.window_from.result.1 c.patch.new.bytes c.in-Ok.ensures (to_z-of_z w64 d f)
-    c.window_from.ensures.from c.window_from.ensures.past c.patch.auto.bytes c.patch.ensures.leaves
+    c.window-from.result.0 c.window-from.result.1 c.patch.new.bytes c.in-Ok.ensures (to_z-of_z w64 d f)
+    c.window-from.ensures.from c.window-from.ensures.past c.patch.auto.bytes c.patch.ensures.leaves
 
 pub returns-in-Err : goal.returns-in-Err
 returns-in-Err g c =

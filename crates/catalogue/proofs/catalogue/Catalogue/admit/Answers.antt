@@ -16,4 +16,7 @@ invariant_of-self c =
     let s : length es < 512 = omega arith in
     let f : leb 512 (length es) ≡ false = lt-leb 512 (length es) s in
     let n : admit_refusal es c.args.form c.args.opcode ≡ None = rw (m, a, f) in
-    (search rules, (ap sound c.push_reserved.ensures.items ∙ sound_admitted es c.args.form c.args.opcode c.args.self.now.sound n, tt))
+    record {
+      room = search rules;
+      sound = ap sound c.push_reserved.ensures.items ∙ sound_admitted es c.args.form c.args.opcode c.args.self.now.sound n;
+    }
