@@ -10,7 +10,7 @@ abbrev pub closing : {L S : Type 0} → Result Finished (Unclosed L S) → Answe
 closing (Ok f) = Ok tt
 closing (Err u) = Err u.refusal
 
--- finished code is as long as what was written and has its labels; refused, the section is handed back as it was
+-- finished code is as long as what was written; refused, the section is handed back as it was
 abbrev pub Ends : {L S : Type 0} → Section L S → Result Finished (Unclosed L S) → Type 0
-Ends s (Ok f) = (f.count ≡ s.len) × (f.labels ≡ s.labels)
+Ends s (Ok f) = f.count ≡ s.len
 Ends s (Err u) = u.section ≡ s

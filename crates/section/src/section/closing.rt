@@ -1,4 +1,4 @@
-ghost use Rattle.std.specs.Prelude.{◌≡◌, List, Ok};
+ghost use Rattle.std.specs.Prelude.{◌≡◌, List, Ok, IfOk};
 ghost use Rattle.form.specs.declared.instr.Entry.{Entry};
 ghost use Rattle.book.specs.Labels.{slot_of};
 ghost use Rattle.book.specs.Listed.{labels_in};
@@ -38,6 +38,7 @@ impl<L: FieldPatch, S: FieldPatch> Section<L, S> {
     pub fn close(self, code: &mut [u8], symbols: &[i64]) -> Result<Finished, Unclosed<L, S>>
         ensures step { (es : List Entry) → Closes (family L.FieldRead.fields L.FieldPatch.patched) (family S.FieldRead.fields S.FieldPatch.patched) (state self es code.old) symbols.now (closing result) code.new }
         ensures ends { Ends self result }
+        ensures labels { IfOk result (λ f. f.labels ≡ self.labels) }
         ensures promises { (es : List Entry) → closing result ≡ Ok tt → Promises standard (family L.FieldRead.fields L.FieldPatch.patched) (family S.FieldRead.fields S.FieldPatch.patched) (state self es code.old) symbols.now code.new }
     {
         if self.is_other(code) {

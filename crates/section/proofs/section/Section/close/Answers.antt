@@ -16,7 +16,8 @@ returns-in-Ok g c =
     λ es. closed l m (state c.args.self es c.args.code.now) c.args.symbols.now c.as_slice.result.now (sym c.if-is_other.ensures) c.as_slice.ensures c.in-Ok.ensures in
     record {
       step = step;
-      ends = (refl, refl);
+      ends = refl;
+      labels = refl;
       promises =
           λ es _. law_holds standard refl l m g.met.L.FieldPatch.patches g.met.S.FieldPatch.patches (state c.args.self es c.args.code.now) c.args.symbols.now
           c.settle.new.code (step es);
