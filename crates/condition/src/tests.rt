@@ -21,6 +21,7 @@ fn texts(rt: HostRuntime) -> Result<(), Fail> {
         Cond::from_intcc(IntCC::Equal)
             .invert()
             .to_string(rt.alloc())?
+            .as_str()
             == "ne"
     );
     Ok(())

@@ -1,10 +1,9 @@
 -- Two and four bytes as numbers.
-use Rattle.std.proofs.Common.{◌≡◌, ℕ, suc, ◌+◌, ◌-◌, ◌*◌, ◌/◌, ◌%◌, ◌^◌, ◌<◌, ◌≤◌, Bool, true, false, cond, ltb, List, [], ◌∷◌, ◌++◌, length, get_or, take, drop, set, ℤ, pos, negsuc, ◌*ℤ◌, nat_abs, ◌≤ℤ◌, sym, refl, ap, ◌∙◌, subst, mod-eq_of_lt, add-one, arith, drop-cons, w16, w32, w64, SFits, to_z, of_z}
-use lib.Signed.{quot_z, shr_z, lt_z}
-use lib.Seq.{sets, sets-eq}
+use Rattle.std.proofs.Common.{◌≡◌, ℕ, suc, ◌+◌, ◌-◌, ◌*◌, ◌/◌, ◌%◌, ◌<◌, ◌≤◌, Bool, true, false, cond, ltb, List, [], ◌∷◌, ◌++◌, length, get_or, take, drop, set, ℤ, pos, negsuc, ◌*ℤ◌, nat_abs, ◌≤ℤ◌, sym, refl, ap, ◌∙◌, add-one, arith, drop-cons, w16, w32, w64, SFits, to_z, of_z}
+use lib.Signed.{quot_z, shr_z}
+use lib.Seq.{sets-eq}
 use mir.Val.{sel}
 use Rattle.std.proofs.lemmas.Int.{ints, to_z-of_z}
-use Rattle.std.proofs.lemmas.Nat.{shr-shr, div-add-mod', div_below}
 use Rattle.refusal.specs.Numbers.{wrap, signed, big_endian, bytes_of_number}
 use Rattle.field.specs.Family.{overwrite}
 

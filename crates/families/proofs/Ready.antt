@@ -1,11 +1,11 @@
 -- What an accepted distance gives to the call that writes it.
-use Rattle.std.proofs.Common.{◌≡◌, ℕ, ◌%◌, ◌≤◌, false, List, length, ℤ, nat_abs, ◌≤ℤ◌, Some, None, Ok, Option, Result, sym, refl, ap, ◌∙◌, subst, arith}
+use Rattle.std.proofs.Common.{◌≡◌, ℕ, ◌%◌, ◌≤◌, false, List, length, ℤ, nat_abs, ◌≤ℤ◌, Some, None, Ok, Option, Result, sym, ap, ◌∙◌, subst, arith}
 use lib.Signed.{lt_z}
 use Rattle.std.proofs.lemmas.Int.{ints}
 use Rattle.std.proofs.lemmas.Bool.{eqb-true}
 use Rattle.refusal.specs.Refusals.{answered, unless}
 use Rattle.field.specs.declared.verdict.FieldRefusal.{FieldRefusal}
-use Rattle.field.specs.Family.{FieldInfo, Fields, Family, refuses, refuses_by, after_patch}
+use Rattle.field.specs.Family.{FieldInfo, Family, refuses, refuses_by, after_patch}
 use Rattle.field.proofs.Laws.{accepted, passed_none}
 
 not_below : (a b : ℤ) → lt_z a b ≡ false → b ≤ℤ a

@@ -1,5 +1,5 @@
 -- The label family and the relocation family are lawful, and serve a section.
-use Rattle.std.specs.Prelude.{◌≡◌, ℕ, ◌-◌, ◌*◌, ◌^◌, ◌<◌, Bool, true, false, cond, pos, neg_ℤ, Some, None, Option, ◌==◌, refl}
+use Rattle.std.specs.Prelude.{◌≡◌, ℕ, Bool, true, false, cond, pos, neg_ℤ, Some, None, ◌==◌, refl}
 use Rattle.std.proofs.Common.{sym, subst, arith}
 use Rattle.field.specs.Family.{FieldInfo, Lawful, serves, two_kinds, label_table, relocation_table, label_family, relocation_family}
 use Rattle.field.proofs.Laws.{Fits, never_none, same_some, overwriting}

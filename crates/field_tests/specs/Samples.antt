@@ -1,7 +1,7 @@
 -- Two families that are not ours. They show what the laws of a family leave open.
-use Rattle.std.specs.Prelude.{ℕ, ◌+◌, ◌%◌, Bool, true, false, cond, List, [], ◌∷◌, ℤ, pos, neg_ℤ, Some, None, Option, ◌==◌}
+use Rattle.std.specs.Prelude.{ℕ, ◌+◌, ◌%◌, cond, List, [], ◌∷◌, ℤ, pos, neg_ℤ, Some, None, Option, ◌==◌}
 use Rattle.refusal.specs.Numbers.{wrap}
-use Rattle.field.specs.Family.{FieldInfo, Fields, Family, overwritten}
+use Rattle.field.specs.Family.{FieldInfo, Family, overwritten}
 
 abbrev pub one_kind : ℕ → FieldInfo → ℕ → Option FieldInfo
 one_kind n i k = cond (k == n) (Some i) None

@@ -29,6 +29,6 @@ fn shifts(rt: HostRuntime) -> Result<(), Fail> {
 #[test]
 fn texts(rt: HostRuntime) -> Result<(), Fail> {
     let least = SImm20::maybe_from_i64(-524288).ok_or(())?;
-    assert!(rt; least.to_string(rt.alloc())? == "-524288");
+    assert!(rt; least.to_string(rt.alloc())?.as_str() == "-524288");
     Ok(())
 }

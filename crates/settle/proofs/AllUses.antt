@@ -1,8 +1,8 @@
 -- All uses, one after another.
-use Rattle.std.proofs.Common.{◌≡◌, ℕ, zero, suc, ◌+◌, ◌<◌, ◌≤◌, List, [], ◌∷◌, length, get_or, take, ℤ, Some, None, Ok, Err, Option, Result, sym, refl, ap, ◌∙◌, le_of_suc-le-suc, not-suc-le-zero, add-one, arith, take_all}
+use Rattle.std.proofs.Common.{◌≡◌, ℕ, zero, suc, ◌+◌, ◌<◌, ◌≤◌, List, [], ◌∷◌, length, get_or, take, ℤ, Some, None, Ok, Err, Option, sym, refl, ap, ◌∙◌, le_of_suc-le-suc, not-suc-le-zero, add-one, arith, take_all}
 use Rattle.refusal.specs.declared.Refusal.{Refusal}
 use Rattle.refusal.specs.Refusals.{Answer, answered}
-use Rattle.field.specs.Family.{Fields, Family}
+use Rattle.field.specs.Family.{Family}
 use Rattle.book.specs.declared.target.Target.{Target}
 use Rattle.book.specs.declared.target.Target.TheVariants.{Label as to_label}
 use Rattle.book.specs.declared.target.Use.{Use}

@@ -1,5 +1,5 @@
 -- How the code gets there: where a family's bytes lie, and the distance that a use gets.
-use Rattle.std.specs.Prelude.{ℕ, ◌+◌, ◌-◌, min, List, ℤ, pos, ◌-ℤ◌, Some, None, Ok, Err, Option, Result}
+use Rattle.std.specs.Prelude.{ℕ, ◌+◌, ◌-◌, min, List, ℤ, pos, ◌-ℤ◌, Some, None, Err, Option, Result}
 use Rattle.refusal.specs.declared.Reason.TheVariants as why
 use Rattle.refusal.specs.declared.Refusal.{Refusal}
 use Rattle.refusal.specs.Refusals.{when_some, answered, refused_at}

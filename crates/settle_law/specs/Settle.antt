@@ -1,5 +1,5 @@
 -- Settling: every field to be filled is checked, in the order recorded, and then each is patched, by any two families.
-use Rattle.std.specs.Prelude.{ℕ, ◌+◌, ◌-◌, List, [], ◌∷◌, length, ℤ, pos, ◌-ℤ◌, Some, None, Option, Result}
+use Rattle.std.specs.Prelude.{ℕ, ◌+◌, List, [], ◌∷◌, length, ℤ, pos, ◌-ℤ◌, Some, None, Option, Result}
 use Rattle.std.proofs.Math.Seq.{paste}
 use Rattle.std.specs.List.{between}
 use Rattle.refusal.specs.declared.Reason.TheVariants as why

@@ -1,5 +1,5 @@
 -- What settling does to the code, by the families' laws alone.
-use Rattle.std.specs.Prelude.{◌≡◌, ℕ, ◌+◌, ◌<◌, ◌≤◌, ◌⊎◌, List, [], ◌∷◌, ◌++◌, length, ℤ, pos, ◌-ℤ◌, Some, None, Ok, Option, slice_index}
+use Rattle.std.specs.Prelude.{◌≡◌, ℕ, ◌+◌, ◌<◌, ◌≤◌, ◌⊎◌, List, ◌∷◌, ◌++◌, length, ℤ, pos, ◌-ℤ◌, Some, None, Ok, Option, slice_index}
 use Rattle.std.specs.List.{AllByRecursion as All}
 use Rattle.refusal.specs.Numbers.{big_endian}
 use Rattle.field.specs.Family.{FieldInfo, Family, Lawful, field_bytes}

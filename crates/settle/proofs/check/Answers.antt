@@ -1,4 +1,4 @@
-use Rattle.std.proofs.Common.{◌≡◌, ◌<◌, get_or, Ok, Err, sym, ◌∙◌, arith, w8, Fits, rules}
+use Rattle.std.proofs.Common.{◌≡◌, ◌<◌, get_or, Err, sym, ◌∙◌, arith, w8, Fits, rules}
 use Rattle.std.proofs.ByRecursion.{All-from_get_or}
 use Rattle.refusal.specs.Refusals.{Answer, answered}
 use Rattle.field.specs.Family.{family}

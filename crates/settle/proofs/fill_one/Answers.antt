@@ -1,4 +1,4 @@
-use Rattle.std.proofs.Common.{◌≡◌, w64, SFits, to_z, of_z, rules}
+use Rattle.std.proofs.Common.{w64, SFits, to_z, of_z, rules}
 use Rattle.std.proofs.lemmas.Int.{to_z-of_z}
 use Rattle.field.specs.Family.{family}
 use Rattle.settle.proofs.OneUse.{fills_window, unfilled}

@@ -1,4 +1,4 @@
-use Rattle.std.proofs.Common.{◌≡◌, ◌≤◌, true, false, cond, ◌||◌, ℤ, Some, None, Option, sym, refl, ap, ◌∙◌, w64, SFits, to_z, of_z, rules}
+use Rattle.std.proofs.Common.{◌≡◌, true, false, cond, ◌||◌, ℤ, Some, None, Option, sym, w64, SFits, rules}
 use lib.Signed.{lt_z}
 use mir.Syntax.{w128}
 use Rattle.std.proofs.lemmas.Int.{to_z-of_z}

@@ -1,4 +1,3 @@
-use Rattle.std.proofs.Common.{rules}
 use Rattle.refusal.proofs.RefusalDisplay.fmt.Goals as goal
 
 pub returns-clause-writes : goal.returns-clause-writes
