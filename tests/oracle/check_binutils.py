@@ -3,7 +3,7 @@
 
 usage: check_binutils.py PROGRAM [PREFIX]
 
-PROGRAM answers the lines of `replay` (target/bin/replay, or an oracle: see make_list.py). PREFIX stands before `as` and `objcopy`, by
+PROGRAM answers the lines of `replay` (crates/replay/out/replay, or an oracle: see make_list.py). PREFIX stands before `as` and `objcopy`, by
 default s390x-linux-gnu-. For each form, instructions of one or two mnemonics with operands from a fixed seed are assembled, and their bytes
 compared with the encoder's. So are the instructions of the Principles of Operation that make_list.py stores.
 

@@ -1,5 +1,5 @@
 -- Lemmas on planning an access.
-use Rattle.std.proofs.Common.{◌≡◌, ℕ, Bool, true, false, cond, not, ◌&&◌, ◌||◌, List, [], ◌∷◌, ◌++◌, pos, Some, None, Ok, Err, Option, Result, sym, refl, ap, ◌∙◌, subst, append-nil, arith}
+use Rattle.std.proofs.Common.{◌≡◌, ℕ, Bool, true, false, cond, not, ◌||◌, List, [], ◌∷◌, ◌++◌, pos, Some, None, Ok, Err, Option, sym, refl, ap, ◌∙◌, subst, append-nil, arith}
 use Rattle.refusal.specs.declared.Reason.{Reason}
 use Rattle.refusal.specs.declared.Reason.TheVariants as why
 use Rattle.refusal.specs.Refusals.{first_refusal, answered, when_some, ◌when◌}
@@ -11,16 +11,15 @@ use Rattle.address.specs.declared.args.Helper as args
 use Rattle.address.specs.declared.frame.Frame as frame
 use Rattle.address.specs.declared.access.Access.{Access}
 use Rattle.address.specs.declared.access.Aimed.{Aimed}
-use Rattle.address.specs.declared.access.AccessPlan.{AccessPlan}
 use Rattle.address.specs.Convention.{zero_reg, int_reg, standard}
-use Rattle.address.specs.Address.{Address, bxd12, bxd20, lgfi, load_address, no_helper, one_helper, two_helpers, only, also, flags_of, Mode, real, virtual, mode, total, resolved, must_load, loaded, widened, finalize, displaced, target_of, is_constant, Helper, Helpers, list_of, mode_checks, form_checks}
+use Rattle.address.specs.Address.{Address, bxd12, bxd20, lgfi, load_address, no_helper, one_helper, two_helpers, only, also, flags_of, Mode, real, virtual, mode, total, resolved, must_load, loaded, finalize, displaced, target_of, is_constant, Helper, Helpers, list_of, mode_checks, form_checks}
 use Rattle.address.specs.Access.{permitted, access_instr, helper_instr, helper_instrs, odd_symbol, plan, planning_refusal, address_checks, target_checks}
-use Rattle.address.specs.Held.{held, helper_of, helpers_in, both, answer_in, when_ok, listed, items_of}
+use Rattle.address.specs.Held.{held, helper_of, helpers_in, both, answer_in, listed}
 use Rattle.address_law.specs.Reaching.{Reaching}
 use Rattle.address_law.proofs.Basics.{none_refused}
 use Rattle.address_law.proofs.Reaching.{accesses_reach, one_access}
 use Rattle.finalize.specs.Steps.{first_in, steps_refusal, steps_answer}
-use Rattle.access.specs.Written.{stays_relative, access_at, first_at, helper_at}
+use Rattle.access.specs.Written.{stays_relative, access_at, first_at}
 use Rattle.finalize.proofs.Finalizing.{answered_ok, answered_err, or_else, refusal_append, displaced_widened, both_some}
 
 -- An address stays relative.

@@ -1,13 +1,13 @@
 ghost use Rattle.std.specs.Prelude.{◌≡◌, [], ◌∷◌, pos, IfOk, Some, None};
 ghost use Rattle.refusal.specs.Refusals.{answered};
 ghost use Rattle.refusal.specs.Numbers.{wrap};
-ghost use Rattle.form.specs.Instr.{instr as instr-of};
+ghost use Rattle.form.specs.Instr.{instr as instr_of};
 ghost use Rattle.address.specs.declared.frame.Frame.{Frame};
 ghost use Rattle.address.specs.Convention.{standard};
-ghost use Rattle.address.specs.Aimed.{by as by-given};
+ghost use Rattle.address.specs.Aimed.{by as by_given};
 ghost use Rattle.address.specs.Address.{mode, finalize, target_of};
-ghost use Rattle.address.specs.Address.{is_constant as constant-in};
-ghost use Rattle.address.specs.Access.{permitted, data_fits, odd_symbol, plan as plan-of, planning_refusal};
+ghost use Rattle.address.specs.Address.{is_constant as constant_in};
+ghost use Rattle.address.specs.Access.{permitted, data_fits, odd_symbol, plan as plan_of, planning_refusal};
 ghost use Rattle.address.specs.Held.{held, helper_of, answer_in, when_ok, listed, items_of};
 ghost use Rattle.address_law.specs.Reaching.{Reaching};
 ghost use Rattle.finalize.specs.Steps.{first_in};
@@ -57,7 +57,7 @@ fn stays_relative(mem: &MemArg, mi: MemInstType) -> bool
 
 // Whether the registers and the mask of an access and its address are of their kinds.
 fn fits(access: &Access, may_trap: bool, mem: &MemArg) -> bool
-    ensures { (fr : Frame) → result ≡ (plan-of standard access.now may_trap mem.now fr).fits }
+    ensures { (fr : Frame) → result ≡ (plan_of standard access.now may_trap mem.now fr).fits }
 {
     let relative = stays_relative(mem, access.permitted(may_trap));
     mem.registers_fit() && data_fits(access, relative)
@@ -74,7 +74,7 @@ fn odd_offset(mem: &MemArg) -> bool
 }
 
 fn is_constant(mem: &MemArg) -> bool
-    ensures { (fr : Frame) → result ≡ constant-in (mode standard fr mem.now) }
+    ensures { (fr : Frame) → result ≡ constant_in (mode standard fr mem.now) }
 {
     match *mem {
         MemArg::Constant { .. } => true,
@@ -90,7 +90,7 @@ fn checked(
     frame: &Frame,
     lost_label: bool,
 ) -> Result<(Helpers, MemArg), Reason>
-    ensures { when_ok answer_in result ≡ answered (planning_refusal standard (plan-of standard access.now may_trap mem.now frame.now) lost_label) (Some (finalize standard (permitted access.now may_trap) frame.now mem.now)) }
+    ensures { when_ok answer_in result ≡ answered (planning_refusal standard (plan_of standard access.now may_trap mem.now frame.now) lost_label) (Some (finalize standard (permitted access.now may_trap) frame.now mem.now)) }
 {
     if !fits(access, may_trap, mem) {
         return Err(Reason::Operand);
@@ -117,7 +117,7 @@ fn num(r: Reg) -> i64
 
 // One instruction by an opcode that was given.
 fn by(opcode: Option<u16>, form: Form, aim: Option<Target>, operands: [i64; 6]) -> Option<Aimed>
-    ensures { listed result ≡ by-given opcode aim (λ o. instr-of form o operands) }
+    ensures { listed result ≡ by_given opcode aim (λ o. instr_of form o operands) }
 {
     match opcode {
         Some(opcode) => Some(Aimed {
@@ -141,7 +141,7 @@ fn by_index(
     index: Reg,
     d: i64,
 ) -> Option<Aimed>
-    ensures { listed result ≡ by-given opcode None (λ o. instr-of form o (pos rd.number ∷ pos base.number ∷ pos index.number ∷ d ∷ [])) }
+    ensures { listed result ≡ by_given opcode None (λ o. instr_of form o (pos rd.number ∷ pos base.number ∷ pos index.number ∷ d ∷ [])) }
 {
     let operands = [num(rd), num(base), num(index), d, 0, 0];
     by(opcode, form, None, operands)
@@ -149,7 +149,7 @@ fn by_index(
 
 // The same relative to the instruction.
 fn by_target(opcode: Option<u16>, rd: Reg, target: Target) -> Option<Aimed>
-    ensures { listed result ≡ by-given opcode (Some target) (λ o. instr-of Form.RilB o (pos rd.number ∷ [])) }
+    ensures { listed result ≡ by_given opcode (Some target) (λ o. instr_of Form.RilB o (pos rd.number ∷ [])) }
 {
     by(opcode, Form::RilB, Some(target), [num(rd), 0, 0, 0, 0, 0])
 }
@@ -302,7 +302,7 @@ pub fn plan(
     frame: &Frame,
     lost_label: bool,
 ) -> Result<AccessPlan, Reason>
-    ensures writes { when_ok items_of result ≡ answered (planning_refusal standard (plan-of standard access.now may_trap mem.now frame.now) lost_label) (plan-of standard access.now may_trap mem.now frame.now).items }
+    ensures writes { when_ok items_of result ≡ answered (planning_refusal standard (plan_of standard access.now may_trap mem.now frame.now) lost_label) (plan_of standard access.now may_trap mem.now frame.now).items }
     ensures reaches { IfOk result (λ p. Reaching standard (mode standard frame.now mem.now) (items_of p)) }
 {
     let (helpers, left) = checked(access, may_trap, mem, frame, lost_label)?;

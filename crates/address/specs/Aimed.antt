@@ -1,5 +1,5 @@
 -- Instructions that are to be written, and what they are aimed at.
-use Rattle.std.specs.Prelude.{ℕ, ◌+◌, ◌-◌, List, [], ◌∷◌, ℤ, Some, None, Option}
+use Rattle.std.specs.Prelude.{ℕ, ◌+◌, List, [], ◌∷◌, ℤ, Some, None, Option}
 use Rattle.form.specs.declared.Form.{Form}
 use Rattle.form.specs.Form.{size}
 use Rattle.form.specs.declared.instr.Instr.{Instr}

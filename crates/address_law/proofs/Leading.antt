@@ -1,20 +1,18 @@
 -- What finalizing leaves stands for the address.
-use Rattle.std.proofs.Common.{◌≡◌, ℕ, Bool, true, false, cond, not, ◌&&◌, ◌||◌, eqb, ◌⊎◌, List, [], ◌∷◌, ◌++◌, ℤ, pos, ◌+ℤ◌, ◌-ℤ◌, Some, None, Option, sym, refl, ap, ◌∙◌, inl, inr, arith}
+use Rattle.std.proofs.Common.{◌≡◌, ℕ, Bool, true, false, cond, not, ◌&&◌, ◌||◌, eqb, ◌⊎◌, List, [], ◌∷◌, ◌++◌, ℤ, pos, ◌+ℤ◌, Some, None, Option, refl, ap, ◌∙◌, inl, inr, arith}
 use Rattle.std.proofs.lemmas.Int.{ints}
-use Rattle.std.proofs.lemmas.Bool.{and_cases, and_from, or_left, or_right, or_parts, not-false, not_from_false, eq-eqb, ne_eqb}
+use Rattle.std.proofs.lemmas.Bool.{and_cases, and_from, or_right, or_parts, not-false, eq-eqb, ne_eqb}
 use Rattle.refusal.specs.declared.Reason.TheVariants as why
 use Rattle.refusal.specs.Refusals.{when_some, ◌when◌}
 use Rattle.refusal.specs.Numbers.{plain, twos, within}
-use Rattle.operand.specs.declared.reg.Reg.{Reg}
 use Rattle.book.specs.declared.target.Target.{Target}
-use Rattle.address.specs.declared.args.MachMemFlags.{MachMemFlags}
 use Rattle.address.specs.declared.args.MemArg.{MemArg}
 use Rattle.address.specs.declared.args.MemInstType.{MemInstType}
 use Rattle.address.specs.declared.frame.Frame.{Frame}
 use Rattle.address.specs.Convention.{zero_reg, int_reg, Convention, lawful_convention}
 use Rattle.address.specs.Address.{Address, bxd12, bxd20, label, constant, symbol, adjustment, total, Mode, real, virtual, mode, Helper, lgfi, load_address, Helpers, list_of, only, also, resolved, indexed, must_load, flags_of, loaded, widened, finalize, registers_fit, needs_its_base, displaced, lacks_form, mode_checks, form_checks}
 use Rattle.address.specs.Machine.{Registers, word, content, set_register, named, then_run}
-use Rattle.address_law.specs.Standing.{permits, effect, effects, LeadsTo, StandsFor, FinalizingStands}
+use Rattle.address_law.specs.Standing.{permits, effect, effects, LeadsTo, FinalizingStands}
 use Rattle.address_law.proofs.Basics.{differ, same_some, none_refused}
 use Rattle.address_law.proofs.Conventions.{convention_parts}
 use Rattle.address_law.proofs.Words.{word_part}

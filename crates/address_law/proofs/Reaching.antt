@@ -1,5 +1,5 @@
 -- What an accepted access writes reaches the place that it names.
-use Rattle.std.proofs.Common.{◌≡◌, ℕ, ◌+◌, Bool, true, false, cond, not, ◌&&◌, ◌||◌, eqb, ◌⊎◌, List, [], ◌∷◌, ◌++◌, map, ℤ, pos, ◌+ℤ◌, ◌-ℤ◌, Some, None, Option, sym, refl, ap, ◌∙◌, subst, inl, inr, arith}
+use Rattle.std.proofs.Common.{◌≡◌, ℕ, ◌+◌, Bool, true, false, cond, not, ◌||◌, eqb, ◌⊎◌, List, [], ◌∷◌, ◌++◌, map, ℤ, pos, ◌+ℤ◌, ◌-ℤ◌, Some, None, Option, sym, refl, ap, ◌∙◌, subst, inl, inr, arith}
 use Rattle.std.specs.List.{AllByRecursion as All}
 use Rattle.std.proofs.lemmas.Int.{ints}
 use Rattle.std.proofs.lemmas.Bool.{and_parts, or_cases, not-true, not-false, eqb-true}
@@ -8,7 +8,6 @@ use Rattle.refusal.specs.Refusals.{when_some, ◌when◌}
 use Rattle.refusal.specs.Numbers.{plain, twos, within}
 use Rattle.form.specs.declared.instr.Placed.{Placed}
 use Rattle.form.specs.Form.{size}
-use Rattle.form.specs.Instr.{instr}
 use Rattle.operand.specs.declared.reg.Reg.{Reg}
 use Rattle.book.specs.declared.target.Target.{Target}
 use Rattle.book.specs.declared.target.Target.TheVariants.{Label as to_label, Symbol as to_symbol}
@@ -20,8 +19,8 @@ use Rattle.address.specs.declared.access.Access.{Access}
 use Rattle.address.specs.declared.access.Access.TheVariants.{Mem, MemRs, MemImm8, MemImm16, MemVrx}
 use Rattle.address.specs.declared.access.Aimed.{Aimed}
 use Rattle.address.specs.Convention.{zero_reg, int_reg, Convention, lawful_convention}
-use Rattle.address.specs.Address.{Address, bxd12, bxd20, label, constant, symbol, adjustment, total, Mode, real, virtual, mode, Helper, lgfi, load_address, Helpers, no_helper, one_helper, list_of, only, also, resolved, indexed, must_load, flags_of, loaded, widened, finalize, needs_its_base, too_far, displaced, lacks_form, target_of, is_constant}
-use Rattle.address.specs.Access.{permitted, access_instr, helper_instr, helper_instrs, Plan, plan, address_checks, target_checks}
+use Rattle.address.specs.Address.{Address, bxd12, bxd20, label, constant, symbol, adjustment, total, Mode, real, virtual, mode, Helper, lgfi, load_address, Helpers, no_helper, one_helper, list_of, only, also, resolved, indexed, must_load, flags_of, loaded, widened, finalize, needs_its_base, too_far, lacks_form, target_of, is_constant}
+use Rattle.address.specs.Access.{permitted, access_instr, helper_instr, helper_instrs, plan, address_checks, target_checks}
 use Rattle.address.specs.Machine.{Registers, content, set_register, named, reached, executed, then_run, run}
 use Rattle.address_law.specs.Items.{Item, placed_from, filled, as_placed}
 use Rattle.address_law.specs.Standing.{permits, effect, effects}

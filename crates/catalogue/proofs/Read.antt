@@ -1,6 +1,5 @@
 -- What reading answers, from what was found.
-use Rattle.std.proofs.Common.{◌≡◌, ℕ, zero, ◌+◌, ◌<◌, ◌≤◌, Bool, true, false, cond, ◌&&◌, eqb, ltb, List, [], ◌∷◌, length, get_or, take, ℤ, Some, None, Ok, Err, Option, sym, refl, ap, ◌∙◌, arith, length-take-le, le-ltb}
-use mathlib.Core.Bool.{false≢true}
+use Rattle.std.proofs.Common.{◌≡◌, ℕ, ◌+◌, ◌≤◌, Bool, true, false, cond, ◌&&◌, eqb, ltb, List, [], ◌∷◌, length, get_or, take, ℤ, Some, None, Ok, Err, sym, refl, ap, ◌∙◌, arith, length-take-le, le-ltb}
 use Rattle.refusal.specs.declared.Reason.TheVariants.{Cut, Unused}
 use Rattle.refusal.specs.Refusals.{refused_at}
 use Rattle.form.specs.declared.instr.Entry.{Entry}

@@ -1,5 +1,5 @@
 ghost use Rattle.std.specs.Prelude.{◌≡◌, ◌≤◌, true, vec_capacity};
-ghost use Rattle.catalogue_law.specs.Catalogue.{sound as is-sound};
+ghost use Rattle.catalogue_law.specs.Catalogue.{sound as is_sound};
 
 use form::instr::Entry;
 
@@ -12,5 +12,5 @@ pub mod reading;
 pub struct Catalogue {
     entries: Vec<Entry>,
     ghost room: { 512 ≤ vec_capacity entries },
-    ghost sound: { is-sound entries.items ≡ true },
+    ghost sound: { is_sound entries.items ≡ true },
 }

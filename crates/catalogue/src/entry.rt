@@ -1,6 +1,6 @@
 ghost use Rattle.std.specs.Prelude.{◌≡◌};
 ghost use Rattle.form.specs.Table.{places};
-ghost use Rattle.catalogue_law.specs.Catalogue.{length_by_first_byte, first_byte, misfit as misfits, same_numbers, clashes as clashing, is_entry as is-this, matches};
+ghost use Rattle.catalogue_law.specs.Catalogue.{length_by_first_byte, first_byte, misfit as misfits, same_numbers, clashes as clashing, is_entry as is_this, matches};
 
 use codec::decode::opcode_in;
 use form::Form;
@@ -69,7 +69,7 @@ pub fn clashes(form: Form, opcode: u16, e: Entry) -> bool
 
 /// Whether an entry is of this form and opcode.
 pub fn is_entry(form: Form, opcode: u16, e: Entry) -> bool
-    ensures { result ≡ is-this form opcode e }
+    ensures { result ≡ is_this form opcode e }
 {
     e.form.number() == form.number() && e.opcode == opcode
 }

@@ -1,19 +1,16 @@
 -- The laws of a catalogue.
-use Rattle.std.proofs.Common.{◌≡◌, ℕ, zero, suc, ◌+◌, ◌^◌, ◌<◌, ◌≤◌, Bool, true, false, cond, ◌&&◌, ◌||◌, T, eqb, ltb, ◌⊎◌, List, [], ◌∷◌, ◌++◌, length, take, Some, None, Ok, Err, Option, Result, sym, refl, ap, ◌∙◌, subst, inl, inr, arith, length-take-le}
-use Rattle.std.specs.List.{AllByRecursion as All}
+use Rattle.std.proofs.Common.{◌≡◌, ℕ, ◌<◌, Bool, true, false, cond, ◌||◌, eqb, ltb, ◌⊎◌, List, [], ◌∷◌, ◌++◌, length, take, Some, None, Ok, Err, Option, Result, sym, refl, ap, ◌∙◌, subst, inl, inr, length-take-le}
 use Rattle.std.proofs.lemmas.Bool.{and_parts, and_from, eqb-true, eq-eqb, ltb-false}
-use Rattle.refusal.specs.declared.Reason.TheVariants.{Cut, Unknown, Unused}
+use Rattle.refusal.specs.declared.Reason.TheVariants.{Cut, Unused}
 use Rattle.refusal.specs.declared.Refusal.{Refusal}
 use Rattle.refusal.specs.Refusals.{refused_at}
-use Rattle.refusal.specs.Tests.{any}
-use Rattle.form.specs.declared.Form.{Form}
 use Rattle.form.specs.declared.instr.Entry.{Entry}
 use Rattle.form.specs.declared.instr.Placed.{Placed}
-use Rattle.form.specs.Form.{size, opcode_digits, form_number}
+use Rattle.form.specs.Form.{size, form_number}
 use Rattle.form.specs.Encode.{opcode_of, operands_of, clean, nibbles}
 use Rattle.form.specs.Instr.{bytes_of}
 use Rattle.inversion.proofs.Inversion.{inversion}
-use Rattle.catalogue_law.specs.Catalogue.{length_by_first_byte, first_byte, catalogued, is_entry, Catalogued, matches, find, read_as, read_rest, sound}
+use Rattle.catalogue_law.specs.Catalogue.{length_by_first_byte, first_byte, catalogued, is_entry, Catalogued, matches, find, read_as}
 use Rattle.catalogue_law.specs.Laws.{OneEntry, WrittenIsReadBack, ReadIsWrittenAgain}
 use Rattle.catalogue_law.proofs.Basics.{T_true, true_T, any_append, none_some, ok_err, all_take}
 use Rattle.catalogue_law.proofs.Encoding.{spelled, opcode_spelled, first_of_opcode}

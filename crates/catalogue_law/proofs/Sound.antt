@@ -1,5 +1,5 @@
 -- A sound catalogue's parts, and that admitting keeps it sound.
-use Rattle.std.proofs.Common.{◌≡◌, ℕ, ◌+◌, Bool, true, false, not, ◌&&◌, ◌||◌, leb, List, [], ◌∷◌, ◌++◌, length, None, refl, arith, length-append}
+use Rattle.std.proofs.Common.{◌≡◌, ℕ, Bool, true, false, not, ◌&&◌, ◌||◌, leb, List, [], ◌∷◌, ◌++◌, length, None, refl, arith, length-append}
 use Rattle.std.proofs.lemmas.Bool.{and_parts, and_from, or_parts, not-true, leb-false, le-leb}
 use Rattle.refusal.specs.declared.Reason.TheVariants.{Misfit, Clash, Full}
 use Rattle.form.specs.declared.Form.{Form}

@@ -1,5 +1,5 @@
 -- The calls that write the routine, one after another, and what each leaves.
-use Rattle.std.specs.Prelude.{ℕ, true, false, List, [], ◌∷◌, ◌++◌, replicate, ℤ, pos, Some, None, Ok}
+use Rattle.std.specs.Prelude.{false, List, [], ◌∷◌, replicate, ℤ, pos, Some, None, Ok}
 use Rattle.form.specs.declared.Form.TheVariants.{RiC, Rr}
 use Rattle.book.specs.declared.target.Slot.TheVariants.{Waiting as waiting, Bound as bound}
 use Rattle.address.specs.declared.args.MemArg.{MemArg}

@@ -1,5 +1,5 @@
 -- Numbers cut to their low bits, and short lists element by element.
-use Rattle.std.proofs.Common.{◌≡◌, ℕ, suc, ◌%◌, List, [], ◌∷◌, length, get_or, ℤ, pos, negsuc, refl, ap, ◌∙◌, arith, w64, SFits, of_z}
+use Rattle.std.proofs.Common.{◌≡◌, ℕ, ◌%◌, List, [], ◌∷◌, length, get_or, ℤ, pos, negsuc, refl, ◌∙◌, arith, w64, SFits, of_z}
 use lib.Bits.{bit_and, and_mask}
 use Rattle.refusal.specs.Numbers.{wrap}
 

@@ -1,5 +1,5 @@
 -- The encoders, given the operands that a form takes, form the instruction's bytes.
-use Rattle.std.proofs.Common.{◌≡◌, ℕ, ◌%◌, ◌<◌, ◌≤◌, Bool, true, false, not, ◌&&◌, ltb, leb, List, [], ◌∷◌, map, length, get_or, ℤ, pos, negsuc, sym, refl, ap, ◌∙◌, mod-eq_of_lt, arith}
+use Rattle.std.proofs.Common.{◌≡◌, ℕ, ◌%◌, ◌≤◌, Bool, true, not, ◌&&◌, ltb, leb, List, [], ◌∷◌, map, length, get_or, ℤ, pos, negsuc, sym, refl, ap, ◌∙◌, mod-eq_of_lt, arith}
 use mathlib.Core.Bool.{false≢true}
 use lib.Signed.{shr_z}
 use Rattle.refusal.specs.Numbers.{wrap}

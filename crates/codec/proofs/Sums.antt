@@ -1,17 +1,14 @@
 -- Sums of digits, step by step.
-use Rattle.std.proofs.Common.{◌≡◌, ℕ, zero, suc, ◌+◌, ◌*◌, ◌/◌, ◌%◌, ◌<◌, ◌≤◌, Bool, true, false, ◌&&◌, ltb, List, [], ◌∷◌, map, length, get_or, drop, ℤ, sym, refl, ap, ◌∙◌, add-zero, add_assoc, zero-add, add-one, arith, drop-cons}
-use mathlib.Core.Bool.{false≢true}
+use Rattle.std.proofs.Common.{◌≡◌, ℕ, zero, suc, ◌+◌, ◌*◌, ◌/◌, ◌%◌, ◌<◌, ◌≤◌, Bool, true, false, ◌&&◌, ltb, List, [], ◌∷◌, map, length, get_or, drop, sym, refl, ap, ◌∙◌, add-one, arith, drop-cons}
 use Rattle.form.specs.Form as form
 use Rattle.form.specs.Form.{unused}
 use Rattle.form.specs.Encode.{nibbles, gather}
 use Rattle.form.proofs.Tests.{left, right, ltb_is}
 use Rattle.form.proofs.Every.{at_each}
 use Rattle.codec.specs.declared.row.Digit.{Digit}
-use Rattle.codec.specs.declared.row.Digit.TheVariants.{Unused}
-use Rattle.codec.specs.Digits.{digit_of, low}
+use Rattle.codec.specs.Digits.{digit_of}
 use Rattle.refusal.specs.Tests.{all}
 use Rattle.form.specs.declared.Form.{Form}
-use Rattle.form.specs.declared.Form.TheVariants.{E, RiA, RiB, RiC, RieA, RieD, RieF, RieG, RilA, RilB, RilC, Rr, Rrd, Rre, RrfAb, RrfCde, Rs, Rsy, Rx, Rxy, Si, Sil, Siy, VriA, VriB, VriC, VriK, VrrA, VrrB, VrrC, VrrD, VrrE, VrrF, VrsA, VrsB, VrsC, Vrx}
 use Rattle.form.specs.declared.OperandKind.{OperandKind}
 use Rattle.form.specs.Encode.{six, operands_from, all_clean, digit_clean, opcode_of}
 use Rattle.form.specs.declared.table.OpcodeDigits.{OpcodeDigits}

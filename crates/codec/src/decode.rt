@@ -1,6 +1,6 @@
 ghost use Rattle.std.specs.Prelude.{◌≡◌, ℕ, ◌+◌, ◌*◌, ◌^◌, ◌<◌, ◌≤◌, true, ◌&&◌, ◌||◌, map, length, pos, neg_ℤ, ◌≤ℤ◌, if◌then◌else◌, Some, None, ◌==◌, nat_eq, slice_index, slice_index_or};
 ghost use Rattle.form.specs.Form.{row as row_of, unused, size as type_size, kinds as kinds_of};
-ghost use Rattle.form.specs.Encode.{nibbles, operand_part, gather, bit_part, bit_of, field_of as field_at, width, operands_of as operands-at, is_vec, rxb_clean, digit_clean, clean, all_clean, opcode_of as opcode-at};
+ghost use Rattle.form.specs.Encode.{nibbles, operand_part, gather, bit_part, bit_of, field_of as field_at, width, operands_of as operands_at, is_vec, rxb_clean, digit_clean, clean, all_clean, opcode_of as opcode_at};
 ghost use Rattle.refusal.specs.Numbers.{from_bits};
 ghost use Rattle.codec.specs.Digits.{digit_of, low, operand_at, twos_by};
 ghost use Rattle.refusal.specs.Tests.{all};
@@ -184,7 +184,7 @@ fn byte_at(bytes: &[u8], i: usize) -> u16
 /// The opcode's digits.
 fn opcode_of(form: Form, bytes: &[u8]) -> u16
     requires { length bytes.now ≡ type_size form }
-    ensures { result ≡ opcode-at form bytes.now }
+    ensures { result ≡ opcode_at form bytes.now }
 {
     let first = byte_at(bytes, 0);
     match form.opcode_digits() {
@@ -211,7 +211,7 @@ fn operand(form: Form, bytes: &[u8], i: usize) -> i64
 /// The six operands, the unused ones 0.
 fn operands_of(form: Form, bytes: &[u8]) -> [i64; 6]
     requires { length bytes.now ≡ type_size form }
-    ensures { result ≡ operands-at form bytes.now }
+    ensures { result ≡ operands_at form bytes.now }
 {
     let a = operand(form, bytes, 0);
     let b = operand(form, bytes, 1);
@@ -276,7 +276,7 @@ fn is_clean(form: Form, bytes: &[u8]) -> bool
 
 /// The opcode in these bytes, if they are as many as the form has.
 pub fn opcode_in(form: Form, bytes: &[u8]) -> Option<u16>
-    ensures { result ≡ (if nat_eq (length bytes.now) (type_size form) then Some (opcode-at form bytes.now) else None) }
+    ensures { result ≡ (if nat_eq (length bytes.now) (type_size form) then Some (opcode_at form bytes.now) else None) }
 {
     if bytes.len() == form.size() {
         Some(opcode_of(form, bytes))
@@ -288,7 +288,7 @@ pub fn opcode_in(form: Form, bytes: &[u8]) -> Option<u16>
 /// The six operands in these bytes, the unused ones 0; none where the bytes are not as many as the form has, or an unused digit or an
 /// unused bit of RXB is set.
 pub fn decode(form: Form, bytes: &[u8]) -> Option<[i64; 6]>
-    ensures { result ≡ (if nat_eq (length bytes.now) (type_size form) && clean form bytes.now then Some (operands-at form bytes.now) else None) }
+    ensures { result ≡ (if nat_eq (length bytes.now) (type_size form) && clean form bytes.now then Some (operands_at form bytes.now) else None) }
 {
     if bytes.len() != form.size() {
         return None;

@@ -4,7 +4,7 @@ ghost use Rattle.refusal.specs.Numbers.{wrap};
 ghost use Rattle.refusal.specs.Refusals.{answered};
 ghost use Rattle.form.specs.declared.OperandKind.TheVariants.{S16, H16};
 ghost use Rattle.form.specs.Form.{kinds as kinds_of};
-ghost use Rattle.form.specs.Encode.{In, takes as takes-them};
+ghost use Rattle.form.specs.Encode.{In, takes as takes_them};
 ghost use Rattle.codec.specs.Encoded.{padded, encoded, operand_refusal};
 ghost use Rattle.codec.specs.Given.{general_reg, vector_reg};
 
@@ -124,7 +124,7 @@ fn vector(z: &[i64; 6], i: usize) -> Reg
 
 /// The instruction's bytes, by the encoder of its form.
 fn formed(form: Form, opcode: u16, z: &[i64; 6]) -> Encoded
-    requires { takes-them (kinds_of form) z.now ≡ true }
+    requires { takes_them (kinds_of form) z.now ≡ true }
     ensures { result ≡ encoded form opcode z.now }
 {
     match form {

@@ -1,6 +1,6 @@
 ghost use Rattle.std.specs.Prelude.{◌≡◌};
 ghost use Rattle.form.specs.Form.{kinds as kinds_of};
-ghost use Rattle.form.specs.Encode.{In, takes as takes-them};
+ghost use Rattle.form.specs.Encode.{In, takes as takes_them};
 ghost use Rattle.codec.specs.Digits.{taken_at};
 
 use form::{Form, OperandKind};
@@ -40,7 +40,7 @@ fn is_taken(form: Form, i: usize, z: i64) -> bool
 
 /// Whether the operands are of the form's kinds, the unused ones 0.
 pub fn takes(form: Form, operands: &[i64; 6]) -> bool
-    ensures { result ≡ takes-them (kinds_of form) operands.now }
+    ensures { result ≡ takes_them (kinds_of form) operands.now }
 {
     for i in 0..6 {
         if !is_taken(form, i, operands[i]) {

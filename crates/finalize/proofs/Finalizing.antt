@@ -1,5 +1,5 @@
 -- Lemmas on finalizing.
-use Rattle.std.proofs.Common.{◌≡◌, ℕ, ◌^◌, ◌<◌, Bool, true, false, cond, not, ◌&&◌, ◌||◌, leb, List, [], ◌∷◌, ◌++◌, ℤ, pos, Some, None, Ok, Err, Option, Result, sym, refl, ap, ◌∙◌, arith, w64, SFits}
+use Rattle.std.proofs.Common.{◌≡◌, ℕ, ◌^◌, ◌<◌, Bool, true, false, cond, leb, List, [], ◌∷◌, ◌++◌, ℤ, pos, Some, None, Ok, Err, Option, Result, sym, refl, ap, ◌∙◌, arith, w64, SFits}
 use Rattle.std.proofs.lemmas.Int.{ints}
 use Rattle.std.proofs.lemmas.Bool.Decides.{nat_tests}
 use Rattle.std.specs.Option.{SomeIff}
@@ -7,7 +7,7 @@ use Rattle.refusal.specs.declared.Reason.{Reason}
 use Rattle.refusal.specs.Numbers.{within, twos}
 use Rattle.refusal.specs.declared.Refusal.{Refusal}
 use Rattle.refusal.specs.declared.Placed.{Placed}
-use Rattle.refusal.specs.Refusals.{first_refusal, answered, when_some, refused_at, answer, placed}
+use Rattle.refusal.specs.Refusals.{first_refusal, answered, when_some, refused_at, placed}
 use Rattle.operand.specs.declared.reg.Reg.{Reg}
 use Rattle.address.specs.declared.args.MachMemFlags.{MachMemFlags}
 use Rattle.address.specs.declared.args.MemArg.{MemArg}
@@ -19,7 +19,7 @@ use Rattle.address.specs.declared.args.Helper.TheVariants.{LoadAddr}
 use Rattle.address.specs.declared.args.Helpers as pair
 use Rattle.address.specs.declared.frame.Frame as frame
 use Rattle.address.specs.Convention.{zero_reg, int_reg, Convention, standard}
-use Rattle.address.specs.Address.{Address, bxd12, bxd20, label, constant, symbol, Mode, real, virtual, mode, total, frame_overflows, Helper, load_address, Helpers, only, also, must_load, flags_of, flags_in, resolved, loaded, widened, finalize, finalize_refusal, finalize_answer, displaced, lacks_form, mode_checks, form_checks}
+use Rattle.address.specs.Address.{Address, bxd12, bxd20, label, constant, symbol, Mode, real, virtual, mode, total, frame_overflows, Helper, load_address, Helpers, only, also, must_load, flags_of, flags_in, resolved, loaded, widened, finalize, finalize_refusal, finalize_answer, displaced, mode_checks, form_checks}
 use Rattle.address_law.proofs.Leading.{finalizing_stands}
 use Rattle.finalize.specs.Answers.{Stands}
 use Rattle.address.specs.Held.{when_ok, held, helper_of, helpers_in, both, answer_in, offset_of}

@@ -1,5 +1,5 @@
 -- The steps of finalizing, as the code takes them.
-use Rattle.std.specs.Prelude.{Bool, cond, ◌++◌, Some, None, Ok, Err, Option, Result}
+use Rattle.std.specs.Prelude.{◌++◌, Some, None, Ok, Option, Result}
 use Rattle.refusal.specs.declared.Reason.{Reason}
 use Rattle.refusal.specs.Refusals.{first_refusal, answered, when_some}
 use Rattle.address.specs.declared.args.MemArg.{MemArg}

@@ -2,7 +2,7 @@
 -- in which each byte is  16 * (a / 16^j % 16) + b / 16^k % 16.
 use Rattle.std.proofs.Common.{◌≡◌, ℕ, suc, ◌+◌, ◌-◌, ◌*◌, ◌/◌, ◌%◌, ◌^◌, ◌<◌, ◌≤◌, Bool, true, false, ◌&&◌, ltb, ℤ, pos, negsuc, nat_abs, sym, refl, ap, ◌∙◌, add-zero, mod-eq_of_lt, zero-add, arith, w16, w32, w64, SFits, to_z, of_z}
 use lib.Bits.{bit_and, bit_or, and_mask, or_shifted}
-use lib.Signed.{mag, shr_z}
+use lib.Signed.{shr_z}
 use Rattle.std.proofs.lemmas.Nat.{mod_below}
 use Rattle.std.proofs.lemmas.Int.{to_z-of_z, to_z_pos}
 use Rattle.operand.specs.declared.reg.Reg.{Reg}

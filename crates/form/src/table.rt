@@ -1,5 +1,5 @@
 ghost use Rattle.std.specs.Prelude.{◌≡◌, Some};
-ghost use Rattle.form.specs.Form.{kinds as kinds_of, size as type_size, opcode_digits as opcode-digits-of, form_number};
+ghost use Rattle.form.specs.Form.{kinds as kinds_of, size as type_size, opcode_digits as opcode_digits_of, form_number};
 ghost use Rattle.form.specs.Table.{places, form_text};
 
 use crate::{Form, OperandKind};
@@ -112,7 +112,7 @@ impl Form {
 
     /// Where the opcode's digits stand.
     pub fn opcode_digits(self) -> OpcodeDigits
-        ensures { places result ≡ opcode-digits-of self }
+        ensures { places result ≡ opcode_digits_of self }
     {
         OPCODE_DIGITS[self.number() as usize]
     }

@@ -1,7 +1,7 @@
 -- Every call keeps the relation, so a list of calls does.
 use Rattle.refusal.specs.Refusals.{unless, Answer}
 use Rattle.address.specs.Convention.{Convention, lawful_convention}
-use Rattle.std.proofs.Common.{◌≡◌, ℕ, ◌+◌, ◌-◌, Bool, true, false, cond, not, ◌||◌, eqb, ltb, ◌≢◌, List, [], ◌∷◌, ◌++◌, length, take, ℤ, Some, None, Ok, Err, Option, Result, sym, refl, ap, ◌∙◌, subst, arith}
+use Rattle.std.proofs.Common.{◌≡◌, ℕ, Bool, true, false, cond, not, ◌||◌, eqb, ltb, ◌≢◌, List, [], ◌∷◌, ◌++◌, length, take, ℤ, Some, None, Ok, Err, Option, Result, sym, refl, ap, ◌∙◌, subst, arith}
 use Rattle.std.proofs.lemmas.Bool.{ne_eqb}
 use Rattle.refusal.specs.declared.Reason.{Reason}
 use Rattle.refusal.specs.declared.Reason.TheVariants as why
@@ -13,7 +13,7 @@ use Rattle.address.specs.declared.frame.Frame.{Frame}
 use Rattle.address.specs.declared.access.Access.{Access}
 use Rattle.form.specs.Form.{kinds}
 use Rattle.form.specs.Encode.{takes, six}
-use Rattle.catalogue_law.specs.Catalogue.{Catalogued, is_entry, catalogued, admit_refusal, admitted}
+use Rattle.catalogue_law.specs.Catalogue.{Catalogued, is_entry, admit_refusal, admitted}
 use Rattle.catalogue_law.proofs.Sound.{sound_admitted}
 use Rattle.field.specs.Family.{Family}
 use Rattle.address.specs.Address.{mode}
@@ -24,7 +24,7 @@ use Rattle.book.specs.Labels.{settle_label}
 use Rattle.law.specs.Inventory.{Event, admit, put, put_to_label, access, reserve, bind, give_up, close, Inventory, empty, fed, fed_all, items_of}
 use Rattle.address_law.specs.Items.{Item}
 use Rattle.law.specs.Inventory.{relabelled as relabelled_inventory}
-use Rattle.law.specs.Section.{State, Call, written, other_buffer, put_refusal, Puts, branches, put_to_label_refusal, PutsToLabel, access_refusal, Accesses, relabelled, reserve_refusal, Reserves, bind_refusal, Binds, give_up_refusal, GivesUp, with_entries, with_code, Admits, Grows, same, grown}
+use Rattle.law.specs.Section.{State, Call, written, other_buffer, put_refusal, Puts, put_to_label_refusal, PutsToLabel, access_refusal, Accesses, relabelled, reserve_refusal, Reserves, bind_refusal, Binds, give_up_refusal, GivesUp, with_entries, with_code, Admits, Grows, same, grown}
 use Rattle.law.specs.Law.{Opens, Step, Run, done, then, lent, InventoryMatches}
 use Rattle.catalogue_law.proofs.Basics.{none_some, true_T, not_refused, refused, any_append, all_weaker}
 use Rattle.law.proofs.Patching.{Branch, ri_b, ri_c, ril_b, ril_c, branch_is}

@@ -12,7 +12,7 @@ use Rattle.form.specs.declared.instr.Entry.{Entry}
 use Rattle.form.specs.Form.{size, kinds, opcode_digits}
 use Rattle.form.specs.Encode.{encode, takes, six}
 use Rattle.catalogue_law.specs.Catalogue.{Catalogued}
-use Rattle.field.specs.Family.{FieldInfo, Family, field_bytes, held, held_by, refuses, after_patch, Lawful, serves}
+use Rattle.field.specs.Family.{FieldInfo, Family, field_bytes, held_by, refuses, after_patch, Lawful, serves}
 use Rattle.law.specs.Inventory.{instrs}
 use Rattle.address_law.specs.Items.{Item, with_distance, filled_to, filled, as_placed}
 use Rattle.law.specs.Matching.{uses_of, Sound}

@@ -1,7 +1,7 @@
 -- The law, from what is assumed of one instruction and of what an access writes.
 use Rattle.refusal.specs.Refusals.{answered, unless, ◌when◌, refused_at, Answer}
 use Rattle.address.specs.Convention.{Convention, lawful_convention}
-use Rattle.std.proofs.Common.{◌≡◌, ℕ, ◌+◌, ◌-◌, Bool, true, false, cond, not, ◌&&◌, ltb, List, [], ◌∷◌, ◌++◌, map, length, take, drop, ℤ, Some, None, Ok, Option, sym, refl, ap, ◌∙◌, subst, arith, length-append, take-append-drop, take_at}
+use Rattle.std.proofs.Common.{◌≡◌, ℕ, ◌+◌, Bool, true, false, cond, not, ◌&&◌, ltb, List, [], ◌∷◌, ◌++◌, map, length, take, drop, ℤ, Some, None, Ok, Option, sym, refl, ap, ◌∙◌, subst, arith, length-append, take-append-drop, take_at}
 use Rattle.std.specs.List.{AllByRecursion as All}
 use Rattle.std.proofs.lemmas.Bool.{and_parts, not-false}
 use Rattle.refusal.specs.declared.Reason.TheVariants as why

@@ -1,6 +1,6 @@
 -- Writing keeps the relation between an inventory and a state.
 use Rattle.address.specs.Convention.{Convention}
-use Rattle.std.proofs.Common.{◌≡◌, ℕ, ◌+◌, ◌-◌, ◌≤◌, List, [], ◌∷◌, ◌++◌, map, length, take, drop, Option, sym, refl, ap, ◌∙◌, subst, append_assoc, append-nil, arith, length-append, length-drop, length-take-le, take_at}
+use Rattle.std.proofs.Common.{◌≡◌, ℕ, ◌+◌, ◌≤◌, List, [], ◌∷◌, ◌++◌, map, length, take, drop, Option, sym, refl, ap, ◌∙◌, subst, append_assoc, append-nil, arith, length-append, length-drop, length-take-le, take_at}
 use lib.Seq.{take-length}
 use Rattle.std.specs.List.{AllByRecursion as All}
 use Rattle.form.specs.declared.instr.Entry.{Entry}

@@ -1,20 +1,17 @@
 -- What a list of calls has put into a section, told from their arguments and answers alone.
 use Rattle.address.specs.Convention.{Convention}
 use Rattle.address_law.specs.Items.{Item, placed_from, filled}
-use Rattle.std.specs.Prelude.{ℕ, ◌+◌, Bool, List, [], ◌∷◌, ◌++◌, map, set, ℤ, pos, ◌-ℤ◌, Some, None, Ok, Err, Option, Result}
+use Rattle.std.specs.Prelude.{ℕ, ◌+◌, Bool, List, [], ◌∷◌, ◌++◌, map, ℤ, Some, None, Ok, Err, Option, Result}
 use Rattle.refusal.specs.declared.Refusal.{Refusal}
 use Rattle.form.specs.declared.Form.{Form}
 use Rattle.address.specs.declared.args.MemArg.{MemArg}
 use Rattle.address.specs.declared.frame.Frame.{Frame}
 use Rattle.address.specs.declared.access.Access.{Access}
-use Rattle.form.specs.Form.{size}
 use Rattle.refusal.specs.Refusals.{Answer}
 use Rattle.form.specs.declared.instr.Instr.{Instr}
-use Rattle.form.specs.declared.instr.Placed.{Placed}
-use Rattle.form.specs.Instr.{instr}
 use Rattle.address.specs.Aimed.{to_put, to_branch, size_of_all}
 use Rattle.address.specs.declared.access.Aimed.{Aimed}
-use Rattle.address.specs.Address.{Mode, mode}
+use Rattle.address.specs.Address.{Mode}
 use Rattle.address.specs.Access.{plan}
 use Rattle.book.specs.declared.target.Slot.{Slot}
 use Rattle.book.specs.declared.target.Slot.TheVariants.{Waiting as waiting, Bound as bound, GivenUp as given_up}

@@ -1,6 +1,6 @@
 -- The law of a finished section: the code says what the calls have put in.
 use Rattle.address.specs.Convention.{Convention, lawful_convention}
-use Rattle.std.specs.Prelude.{◌≡◌, ℕ, ◌+◌, true, ◌≢◌, List, [], ◌∷◌, ◌++◌, map, length, take, ℤ, pos, ◌-ℤ◌, Some, None, Ok, Err, Option}
+use Rattle.std.specs.Prelude.{◌≡◌, ℕ, true, ◌≢◌, List, [], ◌∷◌, ◌++◌, map, length, take, ℤ, pos, ◌-ℤ◌, Some, None, Ok, Err, Option}
 use Rattle.std.specs.List.{AllByRecursion as All}
 use Rattle.form.specs.declared.instr.Entry.{Entry}
 use Rattle.catalogue_law.specs.Catalogue.{Catalogued, sound, Reads, read_step}

@@ -9,11 +9,10 @@ use Rattle.address.specs.declared.access.Access.{Access}
 use Rattle.form.specs.Form.{size}
 use Rattle.form.specs.Encode.{six}
 use Rattle.form.specs.declared.instr.Instr.{Instr}
-use Rattle.form.specs.declared.instr.Placed.{Placed}
 use Rattle.form.specs.Instr.{bytes_of_all}
 use Rattle.catalogue_law.specs.Catalogue.{Catalogued, Laid}
 use Rattle.catalogue_law.specs.Catalogue.{sound as sound_catalogue}
-use Rattle.address.specs.Address.{Mode, mode}
+use Rattle.address.specs.Address.{Mode}
 use Rattle.address.specs.Access.{plan}
 use Rattle.law.specs.Inventory.{Inventory, items_of, instrs}
 use Rattle.address_law.specs.Items.{Item, placed_from, as_placed}

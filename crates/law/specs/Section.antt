@@ -12,13 +12,13 @@ use Rattle.address.specs.declared.frame.Frame.{Frame}
 use Rattle.address.specs.declared.access.Access.{Access}
 use Rattle.form.specs.Form.{size, kinds, same_form}
 use Rattle.form.specs.Encode.{takes}
-use Rattle.form.specs.Instr.{bytes_of, instr}
+use Rattle.form.specs.Instr.{bytes_of}
 use Rattle.refusal.specs.Refusals.{answered, unless, Answer, Checks, ◌when◌, first_refusal, answer, refused_at}
 use Rattle.refusal.specs.Tests.{any, all}
 use Rattle.catalogue_law.specs.Catalogue.{misfit, catalogued, admit_refusal, admitted, put_checks}
 use Rattle.field.specs.Family.{Fields, Family, serves}
-use Rattle.address.specs.Address.{mode_checks, form_checks, is_constant}
-use Rattle.address.specs.Access.{odd_symbol, Plan, plan, target_checks}
+use Rattle.address.specs.Address.{mode_checks, form_checks}
+use Rattle.address.specs.Access.{Plan, plan, target_checks}
 use Rattle.book.specs.declared.target.Slot.{Slot}
 use Rattle.book.specs.declared.target.Slot.TheVariants.{Waiting as waiting, Bound as bound, GivenUp as given_up}
 use Rattle.book.specs.Labels.{slot_of, is_waiting, settle_label, place_of}

@@ -1,5 +1,5 @@
 -- Digits of a number: what a mask of one digit keeps, and the least shift at which a number is one digit.
-use Rattle.std.proofs.Common.{◌≡◌, ℕ, zero, suc, ◌+◌, ◌-◌, ◌*◌, ◌/◌, ◌%◌, ◌^◌, ◌<◌, true, false, eqb, Option, sym, refl, ap, ◌∙◌, subst, ⊎_elim, mod-lt, mod-eq_of_lt, arith}
+use Rattle.std.proofs.Common.{◌≡◌, ℕ, zero, suc, ◌+◌, ◌-◌, ◌*◌, ◌/◌, ◌%◌, ◌^◌, ◌<◌, true, false, eqb, Option, sym, ap, ◌∙◌, subst, ⊎_elim, mod-lt, mod-eq_of_lt, arith}
 use native.Mathlib.Nat.{mul-mod_left}
 use lib.Bits.{bit_and, and_zero_r}
 use Rattle.std.proofs.lemmas.Nat.{pow_pos, shl-shr, shr_split, and_mask, and_shr, and_mod}

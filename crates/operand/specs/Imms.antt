@@ -1,5 +1,5 @@
 -- Immediates: numbers within a width, and digits of some bits shifted left by whole digits.
-use Rattle.std.specs.Prelude.{◌≡◌, ℕ, zero, suc, ◌-◌, ◌*◌, ◌/◌, ◌%◌, ◌^◌, ◌<◌, cond, ℤ, pos, Some, None, Option, MatchOption, ◌==◌}
+use Rattle.std.specs.Prelude.{◌≡◌, ℕ, zero, suc, ◌*◌, ◌/◌, ◌%◌, ◌^◌, ◌<◌, cond, ℤ, pos, Some, None, Option, MatchOption, ◌==◌}
 use Rattle.refusal.specs.Numbers.{Width, within}
 use Rattle.operand.specs.declared.imms.UImm12.{UImm12}
 use Rattle.operand.specs.declared.imms.SImm20.{SImm20}

@@ -1,10 +1,9 @@
 -- Where a reader stands after a step.
-use Rattle.std.proofs.Common.{◌≡◌, ℕ, zero, suc, ◌+◌, ◌-◌, ◌<◌, ◌≤◌, List, [], ◌∷◌, length, take, drop, Some, None, Ok, Err, Option, Result, sym, refl, ap, ◌∙◌, add-zero, arith, length-drop, take_all}
+use Rattle.std.proofs.Common.{◌≡◌, ℕ, zero, suc, ◌+◌, ◌-◌, ◌<◌, ◌≤◌, List, [], ◌∷◌, length, take, drop, Some, None, Ok, Err, Option, Result, refl, ap, ◌∙◌, add-zero, arith, length-drop, take_all}
 use Rattle.refusal.specs.declared.Refusal.{Refusal}
 use Rattle.form.specs.declared.instr.Entry.{Entry}
 use Rattle.form.specs.declared.instr.Placed.{Placed}
-use Rattle.form.specs.Form.{size}
-use Rattle.catalogue_law.specs.Catalogue.{read, read_rest, read_step, place_after}
+use Rattle.catalogue_law.specs.Catalogue.{read_rest, read_step, place_after}
 use Rattle.catalogue.specs.Listed.{taken}
 
 drop_past : (xs : List ℕ) (i : ℕ) → length xs ≤ i → drop i xs ≡ []

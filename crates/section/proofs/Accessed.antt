@@ -1,5 +1,5 @@
 -- An access, from its plan and from space.
-use Rattle.std.proofs.Common.{◌≡◌, ℕ, ◌+◌, ◌≤◌, Bool, true, false, cond, ◌&&◌, ltb, leb, List, [], ◌∷◌, ◌++◌, length, Some, None, Ok, Err, Option, Result, sym, refl, ap, ◌∙◌, subst, arith}
+use Rattle.std.proofs.Common.{◌≡◌, ℕ, ◌+◌, ◌≤◌, Bool, true, false, cond, ◌&&◌, leb, List, [], ◌∷◌, ◌++◌, length, Some, None, Ok, Err, Option, Result, sym, refl, ap, ◌∙◌, subst, arith}
 use Rattle.std.specs.List.{AllByRecursion as All}
 use Rattle.std.proofs.lemmas.Bool.{leb-false}
 use Rattle.refusal.specs.declared.Reason.{Reason}
@@ -21,13 +21,13 @@ use Rattle.address.specs.declared.access.Aimed.{Aimed}
 use Rattle.address.specs.Convention.{standard}
 use Rattle.address.specs.Aimed.{size_of_all}
 use Rattle.address.specs.Access.{Plan, plan}
-use Rattle.law.specs.Section.{State, Call, Accesses, written, other_buffer, section_refusal, space_checks, plan_refusal}
-use Rattle.law.proofs.Accepted.{AccessAccepted, access_accepted}
+use Rattle.law.specs.Section.{State, Accesses, written, other_buffer, space_checks, plan_refusal}
+use Rattle.law.proofs.Accepted.{access_accepted}
 use Rattle.law.proofs.Accessing.{access_sound}
 use Rattle.law.proofs.Matching.{SoundAimed}
 use Rattle.section.specs.Extended.{end_checks}
 use Rattle.section.specs.Accessing.{planned_checks}
-use Rattle.section.specs.Fits.{Fits, one_aim, aims}
+use Rattle.section.specs.Fits.{Fits, one_aim}
 use Rattle.section.proofs.Steps.{not_written, accepted, ours}
 use Rattle.section.proofs.Fitting.{gave}
 use Rattle.section.proofs.Aims.{plan_aims}

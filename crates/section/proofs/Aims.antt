@@ -1,5 +1,5 @@
 -- An access is aimed at most once, and only if it names a target.
-use Rattle.std.proofs.Common.{◌≡◌, ℕ, ◌+◌, ◌≤◌, Bool, true, false, cond, List, [], ◌∷◌, ◌++◌, pos, Some, None, Option, arith}
+use Rattle.std.proofs.Common.{ℕ, ◌+◌, ◌≤◌, Bool, true, false, cond, List, [], ◌∷◌, pos, Some, None, Option, arith}
 use Rattle.refusal.specs.Numbers.{plain, twos, within}
 use Rattle.form.specs.declared.instr.Instr.{Instr}
 use Rattle.book.specs.declared.target.Target.{Target}
@@ -11,7 +11,7 @@ use Rattle.address.specs.declared.access.Access.{Access}
 use Rattle.address.specs.declared.access.Access.TheVariants.{Mem, MemRs, MemImm8, MemImm16, MemVrx}
 use Rattle.address.specs.Convention.{Convention, zero_reg, int_reg}
 use Rattle.address.specs.Aimed.{by}
-use Rattle.address.specs.Address.{Address, bxd12, bxd20, label, constant, symbol, total, Mode, real, virtual, mode, Helper, lgfi, load_address, Helpers, list_of, only, also, resolved, must_load, flags_of, loaded, widened, finalize, target_of}
+use Rattle.address.specs.Address.{Address, bxd12, bxd20, label, constant, symbol, total, Mode, real, virtual, mode, Helper, lgfi, load_address, Helpers, list_of, only, also, resolved, must_load, flags_of, loaded, widened, target_of}
 use Rattle.address.specs.Access.{permitted, access_instr, load_address_access, helper_instr, helper_instrs, plan}
 use Rattle.section.specs.Fits.{one_aim, aims}
 use Rattle.section.proofs.Fitting.{aims_append}

@@ -1,10 +1,10 @@
 -- What fits, after some of it was written.
-use Rattle.std.proofs.Common.{◌≡◌, ℕ, ◌+◌, ◌≤◌, Bool, true, false, ◌&&◌, leb, List, [], ◌∷◌, ◌++◌, length, Some, None, Ok, Option, sym, refl, ap, ◌∙◌, subst, arith, length-append}
+use Rattle.std.proofs.Common.{◌≡◌, ℕ, ◌+◌, ◌≤◌, true, false, ◌&&◌, leb, List, [], ◌∷◌, ◌++◌, length, Some, None, Ok, Option, sym, refl, ap, ◌∙◌, subst, arith, length-append}
 use lib.Seq.{length-paste}
 use Rattle.std.specs.List.{AllByRecursion as All}
 use Rattle.std.proofs.lemmas.Bool.{lt-leb}
 use Rattle.form.specs.declared.Form.{Form}
-use Rattle.form.specs.Form.{size, kinds}
+use Rattle.form.specs.Form.{kinds}
 use Rattle.form.specs.Encode.{takes}
 use Rattle.form.specs.Instr.{bytes_of}
 use Rattle.refusal.specs.declared.Reason.{Reason}

@@ -1,5 +1,5 @@
 -- Instructions that can be written at the end, with no further test.
-use Rattle.std.specs.Prelude.{◌≡◌, ℕ, ◌+◌, ◌≤◌, Bool, true, List, [], ◌∷◌, length, Some, None, Option}
+use Rattle.std.specs.Prelude.{◌≡◌, ℕ, ◌+◌, ◌≤◌, true, List, [], ◌∷◌, length, Some, None, Option}
 use Rattle.std.specs.List.{AllByRecursion as All}
 use Rattle.form.specs.Form.{kinds}
 use Rattle.form.specs.Encode.{takes}

@@ -1,9 +1,8 @@
-use Rattle.std.proofs.Common.{◌≡◌, ℕ, ◌≤◌, List, length, take, replicate, Ok, sym, refl, ap, ◌∙◌, subst, inl, rules}
+use Rattle.std.proofs.Common.{◌≡◌, ℕ, List, length, replicate, Ok, refl, ap, inl, rules}
 use Rattle.catalogue.specs.Listed.{entries_in}
 use Rattle.catalogue_law.proofs.Basics.{ok_err}
 use Rattle.section.specs.State.{state}
 use Rattle.section.specs.Closing.{closing}
-use Rattle.client.specs.Routine.{routine_bytes}
 use Rattle.client.specs.Calls.{at_start}
 use Rattle.client.proofs.Accepted.{closes, finished}
 use Rattle.client.proofs.routine.Goals as goal

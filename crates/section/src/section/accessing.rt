@@ -1,9 +1,9 @@
 ghost use Rattle.std.specs.Prelude.{◌≡◌, ◌≤◌, ◌&&◌, ◌||◌, List, [], ◌∷◌};
 ghost use Rattle.refusal.specs.Refusals.{first_refusal, answered};
-ghost use Rattle.address.specs.Access.{opcodes, plan as plan-of};
+ghost use Rattle.address.specs.Access.{opcodes, plan as plan_of};
 ghost use Rattle.section.specs.Accessing.{opcode_checks, planned_checks};
 ghost use Rattle.refusal.specs.Tests.{any, all};
-ghost use Rattle.catalogue_law.specs.Catalogue.{misfit as misfit-of, catalogued};
+ghost use Rattle.catalogue_law.specs.Catalogue.{misfit as misfit_of, catalogued};
 ghost use Rattle.catalogue.specs.Listed.{entries_in};
 ghost use Rattle.book.specs.Books.{lost_label, leaves_use};
 ghost use Rattle.book.specs.Listed.{labels_in};
@@ -30,7 +30,7 @@ use refusal::{Reason, Refusal};
 
 /// Whether an opcode that is given does not fit its form.
 fn misfits(entry: Option<Entry>) -> bool
-    ensures { result ≡ any (λ e. misfit-of e.form e.opcode) (listed entry) }
+    ensures { result ≡ any (λ e. misfit_of e.form e.opcode) (listed entry) }
 {
     match entry {
         Some(e) => misfit(e.form, e.opcode),
@@ -50,7 +50,7 @@ fn is_held(catalogue: &Catalogue, entry: Option<Entry>) -> bool
 
 /// Whether one of three does not fit.
 fn any_misfits(a: Option<Entry>, b: Option<Entry>, c: Option<Entry>) -> bool
-    ensures { result ≡ (any (λ e. misfit-of e.form e.opcode) (listed a) || (any (λ e. misfit-of e.form e.opcode) (listed b) || any (λ e. misfit-of e.form e.opcode) (listed c))) }
+    ensures { result ≡ (any (λ e. misfit_of e.form e.opcode) (listed a) || (any (λ e. misfit_of e.form e.opcode) (listed b) || any (λ e. misfit_of e.form e.opcode) (listed c))) }
 {
     misfits(a) || misfits(b) || misfits(c)
 }
@@ -124,7 +124,7 @@ impl<L, S> Section<L, S> {
         mem: &MemArg,
         frame: &Frame,
     ) -> Result<AccessPlan, Reason>
-        ensures { when_ok items_of result ≡ answered (first_refusal (planned_checks (entries_in catalogue.now) (labels_in self.now.labels) (plan-of standard access.now may_trap mem.now frame.now))) (plan-of standard access.now may_trap mem.now frame.now).items }
+        ensures { when_ok items_of result ≡ answered (first_refusal (planned_checks (entries_in catalogue.now) (labels_in self.now.labels) (plan_of standard access.now may_trap mem.now frame.now))) (plan_of standard access.now may_trap mem.now frame.now).items }
     {
         match check_opcodes(catalogue, access) {
             Err(reason) => Err(reason),

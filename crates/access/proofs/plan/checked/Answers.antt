@@ -1,4 +1,4 @@
-use Rattle.std.proofs.Common.{◌≡◌, sym, ◌∙◌}
+use Rattle.std.proofs.Common.{sym, ◌∙◌}
 use Rattle.std.proofs.lemmas.Result.{err_from_is_err_and}
 use Rattle.access.proofs.Planning.{refused_before, refused_lost, refused_odd, refused_constant, accepted}
 use Rattle.access.proofs.plan.checked.Goals as goal

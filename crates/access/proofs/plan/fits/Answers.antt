@@ -1,4 +1,4 @@
-use Rattle.std.proofs.Common.{◌≡◌, Bool, not, ◌&&◌, sym, ap, ◌∙◌}
+use Rattle.std.proofs.Common.{◌≡◌, not, ◌&&◌, sym, ap, ◌∙◌}
 use Rattle.address.specs.Convention.{standard}
 use Rattle.address.specs.Address.{finalize, displaced, mode}
 use Rattle.address.specs.Access.{data_fits, permitted}

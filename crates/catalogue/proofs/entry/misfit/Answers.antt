@@ -1,5 +1,4 @@
-use Rattle.std.proofs.Common.{◌≡◌, ℕ, ◌<◌, ◌≤◌, Bool, true, false, not, eqb, sym, ap, ◌∙◌, arith}
-use Rattle.form.specs.Form.{size}
+use Rattle.std.proofs.Common.{◌≡◌, ℕ, ◌<◌, ◌≤◌, not, eqb, sym, ap, ◌∙◌, arith}
 use Rattle.catalogue_law.specs.Catalogue.{first_byte, length_by_first_byte}
 use Rattle.catalogue.proofs.Opcodes.{too_wide, not_wide}
 use Rattle.catalogue.proofs.entry.misfit.Goals as goal

@@ -1,4 +1,4 @@
-use Rattle.std.proofs.Common.{◌≡◌, sym, rules}
+use Rattle.std.proofs.Common.{sym, rules}
 use Rattle.codec.proofs.Sums.{nib_at_even, nib_at_odd}
 use Rattle.codec.proofs.decode.nibble.Goals as goal
 

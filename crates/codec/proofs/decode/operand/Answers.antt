@@ -1,4 +1,4 @@
-use Rattle.std.proofs.Common.{◌≡◌, ℕ, ◌<◌, Bool, true, cond, ltb, List, length, get_or, ℤ, pos, sym, ap, ◌∙◌, w64, rules, lt-ltb}
+use Rattle.std.proofs.Common.{◌≡◌, ℕ, ◌<◌, Bool, cond, List, length, get_or, ℤ, pos, sym, ap, ◌∙◌, w64, lt-ltb}
 use Rattle.std.proofs.lemmas.Int.{to_z-of_z}
 use Rattle.form.specs.declared.OperandKind.{OperandKind}
 use Rattle.form.specs.declared.OperandKind.TheVariants.{G, M}

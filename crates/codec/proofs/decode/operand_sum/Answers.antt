@@ -1,5 +1,5 @@
-use Rattle.std.proofs.Common.{◌≡◌, ℕ, ◌+◌, ◌*◌, ◌<◌, ◌≤◌, List, map, length, get_or, drop, sym, ap, ◌∙◌, arith, rules}
-use Rattle.form.specs.Encode.{nibbles, operand_part, gather}
+use Rattle.std.proofs.Common.{◌≡◌, ◌<◌, map, length, get_or, ap, ◌∙◌, arith}
+use Rattle.form.specs.Encode.{nibbles, operand_part}
 use Rattle.codec.specs.declared.row.Digit.TheVariants.{Op}
 use Rattle.codec.specs.Digits.{digit_of, low}
 use Rattle.codec.proofs.Gathered.{gather_at}

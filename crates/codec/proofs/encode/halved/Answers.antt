@@ -1,4 +1,4 @@
-use Rattle.std.proofs.Common.{◌≡◌, get_or, pos, w64, SFits, rules}
+use Rattle.std.proofs.Common.{get_or, pos, w64, SFits, rules}
 use Rattle.form.proofs.Digits.{half_32}
 use Rattle.codec.proofs.encode.halved.Goals as goal
 

@@ -1,4 +1,4 @@
-use Rattle.std.proofs.Common.{◌≡◌, ℕ, get_or, ℤ, pos, ap, ◌∙◌, w64, SFits, of_z, rules}
+use Rattle.std.proofs.Common.{ℕ, get_or, pos, ap, ◌∙◌, w64, SFits, of_z, rules}
 use lib.Bits.{bit_and}
 use Rattle.std.proofs.lemmas.Int.{to_z-of_z}
 use Rattle.codec.proofs.Cut.{low_32}

@@ -1,4 +1,4 @@
-use Rattle.std.proofs.Common.{◌≡◌, ◌<◌, true, false, length, get_or, pos, sym, ap, ◌∙◌, arith, w64, to_z, of_z, rules, below_more}
+use Rattle.std.proofs.Common.{◌≡◌, get_or, pos, sym, ap, ◌∙◌, arith, w64, to_z, of_z, rules, below_more}
 use Rattle.form.specs.Form.{kinds}
 use Rattle.codec.specs.Digits.{taken_at}
 use Rattle.codec.proofs.Sums.{few_kinds}

@@ -1,4 +1,3 @@
-use Rattle.std.proofs.Common.{sym, ap, ◌∙◌}
 use Rattle.address.specs.Convention.{standard}
 use Rattle.address.specs.declared.frame.Frame as frame
 use Rattle.finalize.proofs.Finalizing.{load_not, load_done}

@@ -1,4 +1,4 @@
-use Rattle.std.proofs.Common.{◌≡◌, ◌<◌, Bool, false, cond, leb, List, length, None, vec_items, sym, ap, ◌∙◌, arith, rules}
+use Rattle.std.proofs.Common.{◌≡◌, ◌<◌, false, leb, List, length, None, vec_items, sym, ap, ◌∙◌, arith, rules}
 use borrow.Author.Tests.{lt-leb}
 use Rattle.refusal.specs.Tests.{any}
 use Rattle.form.specs.declared.instr.Entry.{Entry}

@@ -1,4 +1,4 @@
-use Rattle.std.proofs.Common.{◌≡◌, take, sym, ap, ◌∙◌, rules}
+use Rattle.std.proofs.Common.{take, sym, ap, ◌∙◌, rules}
 use Rattle.form.specs.Form.{size}
 use Rattle.catalogue_law.specs.Catalogue.{find, matches}
 use Rattle.catalogue.specs.Listed.{entries_in}

@@ -1,4 +1,4 @@
-use Rattle.std.proofs.Common.{◌≡◌, ℕ, ◌-◌, length, drop, ap, ◌∙◌, arith, length-drop, take_all}
+use Rattle.std.proofs.Common.{ℕ, ◌-◌, length, drop, ap, ◌∙◌, arith, length-drop, take_all}
 use Rattle.catalogue.proofs.catalogue.Catalogue.read_one.Goals as goal
 
 pub returns : goal.returns

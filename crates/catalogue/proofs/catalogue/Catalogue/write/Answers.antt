@@ -1,4 +1,4 @@
-use Rattle.std.proofs.Common.{◌≡◌, true, false, sym, ◌∙◌}
+use Rattle.std.proofs.Common.{sym, ◌∙◌}
 use Rattle.form.specs.Form.{kinds}
 use Rattle.form.specs.Encode.{takes}
 use Rattle.codec.specs.Encoded.{encoded}

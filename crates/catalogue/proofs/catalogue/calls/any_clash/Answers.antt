@@ -1,5 +1,5 @@
-use Rattle.std.proofs.Common.{◌≡◌, sym, ◌∙◌}
-use Rattle.catalogue_law.specs.Catalogue.{clashes, is_entry}
+use Rattle.std.proofs.Common.{sym, ◌∙◌}
+use Rattle.catalogue_law.specs.Catalogue.{clashes}
 use Rattle.catalogue.proofs.Along.{any_hit, any_miss, any_none}
 use Rattle.catalogue.proofs.catalogue.calls.any_clash.Goals as goal
 

@@ -1,6 +1,6 @@
 use Rattle.std.proofs.Common.{◌≡◌, drop}
 use Rattle.refusal.specs.Tests.{any}
-use Rattle.catalogue_law.specs.Catalogue.{clashes, is_entry}
+use Rattle.catalogue_law.specs.Catalogue.{is_entry}
 use Rattle.catalogue.proofs.catalogue.calls.any_equal.Given as goal
 
 abbrev pub invariant-loop-e : goal.invariant-loop-e

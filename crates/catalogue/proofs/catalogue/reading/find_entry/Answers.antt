@@ -1,4 +1,4 @@
-use Rattle.std.proofs.Common.{◌≡◌, sym, ◌∙◌}
+use Rattle.std.proofs.Common.{sym, ◌∙◌}
 use Rattle.catalogue_law.specs.Catalogue.{matches}
 use Rattle.catalogue.proofs.Along.{find_hit, find_miss, find_none, match_long}
 use Rattle.catalogue.proofs.catalogue.reading.find_entry.Goals as goal

@@ -1,4 +1,4 @@
-use Rattle.std.proofs.Common.{◌≡◌, ◌≤◌, [], length, sym, refl, ap, ◌∙◌, rules}
+use Rattle.std.proofs.Common.{◌≤◌, length, sym, refl, ap, ◌∙◌, rules}
 use Rattle.catalogue.specs.Listed.{entries_in}
 use Rattle.book.specs.Listed.{uses_in}
 use Rattle.address.specs.Held.{items_of}

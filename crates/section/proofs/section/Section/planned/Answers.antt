@@ -1,12 +1,11 @@
-use Rattle.std.proofs.Common.{◌≡◌, Bool, List, ◌∷◌, ◌++◌, Option, sym, ap, ◌∙◌, subst}
+use Rattle.std.proofs.Common.{Bool, ◌∷◌, ◌++◌, Option, sym, ap, ◌∙◌}
 use Rattle.refusal.specs.declared.Reason.{Reason}
 use Rattle.refusal.specs.declared.Reason.TheVariants as why
-use Rattle.refusal.specs.Refusals.{Checks, ◌when◌, first_refusal, answered}
+use Rattle.refusal.specs.Refusals.{Checks, ◌when◌, answered}
 use Rattle.catalogue.specs.Listed.{entries_in}
 use Rattle.book.specs.Books.{lost_label}
 use Rattle.book.specs.Listed.{labels_in}
 use Rattle.address.specs.Convention.{standard}
-use Rattle.address.specs.Held.{when_ok, items_of}
 use Rattle.address.specs.Access.{Plan, plan, opcodes, address_checks, target_checks, planning_refusal}
 use Rattle.section.specs.Accessing.{opcode_checks}
 use Rattle.section.proofs.Tested.{err_first, ok_first}

@@ -5,7 +5,7 @@ use Rattle.catalogue.specs.Listed.{entries_in}
 use Rattle.catalogue_law.specs.Catalogue.{put_checks}
 use Rattle.address.specs.Aimed.{to_put}
 use Rattle.law.specs.Section.{space_checks, written}
-use Rattle.section.specs.State.{books_of, state}
+use Rattle.section.specs.State.{state}
 use Rattle.section.specs.Extended.{end_checks}
 use Rattle.section.proofs.Steps.{ours, few, not_written, one_written, keeps_room}
 use Rattle.section.proofs.section.Section.put.Goals as goal

@@ -1,4 +1,4 @@
-use Rattle.std.proofs.Common.{◌≡◌, ◌≤◌, sym, ap, ◌∙◌, subst, arith}
+use Rattle.std.proofs.Common.{◌≡◌, ap, ◌∙◌, arith}
 use Rattle.form.specs.Form.{size}
 use Rattle.codec.specs.declared.encode.Encoded.{Encoded}
 use Rattle.codec.specs.Encoded.{encoded, operand_refusal}

@@ -1,4 +1,4 @@
-use Rattle.std.proofs.Common.{◌≡◌, ◌+◌, ◌≤◌, Option, sym, ap, ◌∙◌, arith}
+use Rattle.std.proofs.Common.{◌≡◌, ◌+◌, Option, sym, ap, ◌∙◌, arith}
 use Rattle.form.specs.Form.{size}
 use Rattle.codec.proofs.Sums.{few_bytes}
 use Rattle.address.specs.declared.access.Aimed.{Aimed}
