@@ -1,6 +1,6 @@
 -- What an accepted access writes reaches the place that it names.
 use Rattle.std.proofs.Common.{◌≡◌, ℕ, ◌+◌, Bool, true, false, cond, not, ◌||◌, eqb, ◌⊎◌, List, [], ◌∷◌, ◌++◌, map, ℤ, pos, ◌+ℤ◌, ◌-ℤ◌, Some, None, Option, sym, refl, ap, ◌∙◌, subst, inl, inr, arith}
-use Rattle.std.specs.List.{AllByRecursion as All}
+use Rattle.std.specs.List.{AllByRecursion}
 use Rattle.std.proofs.lemmas.Int.{ints}
 use Rattle.std.proofs.lemmas.Bool.{and_parts, or_cases, not-true, not-false, eqb-true}
 use Rattle.refusal.specs.declared.Reason.TheVariants as why
@@ -192,7 +192,7 @@ module _ (C : Convention) (lc : lawful_convention C ≡ true) where
 
     -- the helpers of a plan can be run, and the address that is left has no other target
     abbrev RunsPlan : List Helper × Address → Type 0
-    RunsPlan p = All Runs p.0 × AimFound where_is (target_of (real p.1))
+    RunsPlan p = AllByRecursion Runs p.0 × AimFound where_is (target_of (real p.1))
 
     resolved_runs : (md : Mode) → AimFound where_is (target_of md) → too_far md ≡ false → RunsPlan (first-listed (resolved C md))
     resolved_runs (real a) f h = (tt, f)
@@ -207,7 +207,7 @@ module _ (C : Convention) (lc : lawful_convention C ≡ true) where
     loaded_runs mi hs x c r = go (must_load mi x)
       where
         go : (b : Bool) → RunsPlan (all_listed (cond b (also hs (load_address (int_reg C.temporary) x), bxd12 (int_reg C.temporary) (int_reg zero_reg) (pos 0) (flags_of x)) (only hs, x)))
-        go true = (subst (All Runs) (sym (also_listed hs (load_address (int_reg C.temporary) x))) (all_append Runs (list_of (only hs)) (load_address (int_reg C.temporary) x ∷ []) r.0 ((c, r.1), tt)), tt)
+        go true = (subst (AllByRecursion Runs) (sym (also_listed hs (load_address (int_reg C.temporary) x))) (all_append Runs (list_of (only hs)) (load_address (int_reg C.temporary) x ∷ []) r.0 ((c, r.1), tt)), tt)
         go false = r
 
     widened_found : (mi : MemInstType) (x : Address) → AimFound where_is (target_of (real x)) → AimFound where_is (target_of (real (widened mi x)))
@@ -223,7 +223,7 @@ module _ (C : Convention) (lc : lawful_convention C ≡ true) where
 
     -- The target is among the aims of what is written.
 
-    label_aim : (a : Access) (may_trap : Bool) (l : ℕ) → (permitted a may_trap).have_pcrel ≡ true → All (λ w. AimFound where_is w.aim) (access_instr a (label l)) → AimFound where_is (Some (to_label l))
+    label_aim : (a : Access) (may_trap : Bool) (l : ℕ) → (permitted a may_trap).have_pcrel ≡ true → AllByRecursion (λ w. AimFound where_is w.aim) (access_instr a (label l)) → AimFound where_is (Some (to_label l))
     label_aim (Mem rd rx rxy None) t l e h = absurd (differ e refl)
     label_aim (Mem rd rx rxy (Some o)) t l e h = h.0
     label_aim (MemRs rd rn rs rsy) t l e h = absurd (differ e refl)
@@ -231,7 +231,7 @@ module _ (C : Convention) (lc : lawful_convention C ≡ true) where
     label_aim (MemImm16 imm sil) t l e h = absurd (differ e refl)
     label_aim (MemVrx rd opcode m3) t l e h = absurd (differ e refl)
 
-    symbol_aim : (a : Access) (may_trap : Bool) (n : ℕ) (offset : ℤ) (fl : MachMemFlags) → (permitted a may_trap).have_pcrel ≡ true → All (λ w. AimFound where_is w.aim) (access_instr a (symbol n offset fl)) → AimFound where_is (Some (to_symbol n offset))
+    symbol_aim : (a : Access) (may_trap : Bool) (n : ℕ) (offset : ℤ) (fl : MachMemFlags) → (permitted a may_trap).have_pcrel ≡ true → AllByRecursion (λ w. AimFound where_is w.aim) (access_instr a (symbol n offset fl)) → AimFound where_is (Some (to_symbol n offset))
     symbol_aim (Mem rd rx rxy None) t n offset fl e h = absurd (differ e refl)
     symbol_aim (Mem rd rx rxy (Some o)) t n offset fl e h = h.0
     symbol_aim (MemRs rd rn rs rsy) t n offset fl e h = absurd (differ e refl)
@@ -243,18 +243,18 @@ module _ (C : Convention) (lc : lawful_convention C ≡ true) where
     abbrev planned : Access → MemInstType → List Helper × Address → List Aimed
     planned a mi p = helper_instrs p.0 ++ access_instr a (widened mi p.1)
 
-    found : (a : Access) (may_trap : Bool) (md : Mode) → All (λ w. AimFound where_is w.aim) (planned a (permitted a may_trap) (all_listed (loaded C (permitted a may_trap) (resolved C md).0 (resolved C md).1))) → AimFound where_is (target_of md)
+    found : (a : Access) (may_trap : Bool) (md : Mode) → AllByRecursion (λ w. AimFound where_is w.aim) (planned a (permitted a may_trap) (all_listed (loaded C (permitted a may_trap) (resolved C md).0 (resolved C md).1))) → AimFound where_is (target_of md)
     found a t (real (bxd12 b x d fl)) h = tt
     found a t (real (bxd20 b x d fl)) h = tt
     found a t (real (label l)) h = go (must_load (permitted a t) (label l)) refl h
       where
-        go : (b : Bool) → must_load (permitted a t) (label l) ≡ b → All (λ w. AimFound where_is w.aim) (planned a (permitted a t) (all_listed (cond b (one_helper (load_address (int_reg C.temporary) (label l)), bxd12 (int_reg C.temporary) (int_reg zero_reg) (pos 0) (flags_of (label l))) (no_helper, label l)))) → AimFound where_is (Some (to_label l))
+        go : (b : Bool) → must_load (permitted a t) (label l) ≡ b → AllByRecursion (λ w. AimFound where_is w.aim) (planned a (permitted a t) (all_listed (cond b (one_helper (load_address (int_reg C.temporary) (label l)), bxd12 (int_reg C.temporary) (int_reg zero_reg) (pos 0) (flags_of (label l))) (no_helper, label l)))) → AimFound where_is (Some (to_label l))
         go true e h = h.0
         go false e h = label_aim a t l (nearly (permitted a t) (label l) e) h
     found a t (real (constant c)) h = tt
     found a t (real (symbol n offset fl)) h = go (must_load (permitted a t) (symbol n offset fl)) refl h
       where
-        go : (b : Bool) → must_load (permitted a t) (symbol n offset fl) ≡ b → All (λ w. AimFound where_is w.aim) (planned a (permitted a t) (all_listed (cond b (one_helper (load_address (int_reg C.temporary) (symbol n offset fl)), bxd12 (int_reg C.temporary) (int_reg zero_reg) (pos 0) (flags_of (symbol n offset fl))) (no_helper, symbol n offset fl)))) → AimFound where_is (Some (to_symbol n offset))
+        go : (b : Bool) → must_load (permitted a t) (symbol n offset fl) ≡ b → AllByRecursion (λ w. AimFound where_is w.aim) (planned a (permitted a t) (all_listed (cond b (one_helper (load_address (int_reg C.temporary) (symbol n offset fl)), bxd12 (int_reg C.temporary) (int_reg zero_reg) (pos 0) (flags_of (symbol n offset fl))) (no_helper, symbol n offset fl)))) → AimFound where_is (Some (to_symbol n offset))
         go true e h = h.0
         go false e h = symbol_aim a t n offset fl (and_parts (permitted a t).have_pcrel ((permitted a t).have_unaligned_pcrel || fl.aligned) (nearly (permitted a t) (symbol n offset fl) e)).0 h
     found a t (virtual v) h = tt
@@ -274,7 +274,7 @@ module _ (C : Convention) (lc : lawful_convention C ≡ true) where
     then_same f k h None = refl
     then_same f k h (Some g) = h g
 
-    ran : (hs : List Helper) → All Runs hs → (at : ℕ) (ws : List Aimed) → Ran hs at ws
+    ran : (hs : List Helper) → AllByRecursion Runs hs → (at : ℕ) (ws : List Aimed) → Ran hs at ws
     ran [] r at ws = record { ps = []; past = at; split = refl; runs = λ load g. refl }
     ran (h ∷ hs) r at ws =
         let s = helping_one h r.0 in
@@ -319,7 +319,7 @@ module _ (C : Convention) (lc : lawful_convention C ≡ true) where
       }
 
   -- the target is found if each aim of what is written is
-  pub target_found : (where_is : Target → Option ℤ) (a : Access) (may_trap : Bool) (m : MemArg) (fr : Frame) → All (λ w. AimFound where_is w.aim) (plan C a may_trap m fr).items → AimFound where_is (target_of (mode C fr m))
+  pub target_found : (where_is : Target → Option ℤ) (a : Access) (may_trap : Bool) (m : MemArg) (fr : Frame) → AllByRecursion (λ w. AimFound where_is w.aim) (plan C a may_trap m fr).items → AimFound where_is (target_of (mode C fr m))
   target_found where_is a may_trap m fr aims = found where_is a may_trap (mode C fr m) aims
 
   found_there : (o : Option Target) → AimFound (λ t. Some (pos 0)) o

@@ -1,6 +1,6 @@
 -- Tests, lists and refusals.
 use Rattle.std.proofs.Common.{◌≡◌, ℕ, zero, suc, Bool, true, false, cond, ◌||◌, T, List, [], ◌∷◌, ◌++◌, map, take, drop, Some, None, Ok, Err, Option, Result, sym, refl, subst, arith}
-use Rattle.std.specs.List.{AllByRecursion as All}
+use Rattle.std.specs.List.{AllByRecursion}
 use Rattle.refusal.specs.declared.Reason.{Reason}
 use Rattle.refusal.specs.declared.Refusal.{Refusal}
 use Rattle.refusal.specs.Refusals.{first_refusal, answer}
@@ -23,11 +23,11 @@ pub ok_err : {X Y : Type 0} {x : X} {y : Y} {o : Result X Y} → o ≡ Ok x → 
 ok_err p q = let z : ◌≡◌ {A = ℕ} 0 1 = cc in omega arith
 
 -- a list of tests that refuses nothing
-pub none_refused : (ts : List (Reason × Bool)) → first_refusal ts ≡ None → All (λ t. t.1 ≡ false) ts
+pub none_refused : (ts : List (Reason × Bool)) → first_refusal ts ≡ None → AllByRecursion (λ t. t.1 ≡ false) ts
 none_refused [] e = tt
 none_refused (t ∷ ts) e = go t.1 refl e (none_refused ts)
   where
-    go : (b : Bool) → t.1 ≡ b → cond b (Some t.0) (first_refusal ts) ≡ None → (first_refusal ts ≡ None → All (λ t. t.1 ≡ false) ts) → (t.1 ≡ false) × All (λ t. t.1 ≡ false) ts
+    go : (b : Bool) → t.1 ≡ b → cond b (Some t.0) (first_refusal ts) ≡ None → (first_refusal ts ≡ None → AllByRecursion (λ t. t.1 ≡ false) ts) → (t.1 ≡ false) × AllByRecursion (λ t. t.1 ≡ false) ts
     go true p e h = absurd (none_some e refl)
     go false p e h = (p, h e)
 
@@ -49,24 +49,24 @@ any_append p (x ∷ xs) ys t = go (p x) refl t (any_append p xs ys)
     go true e t h = tt
     go false e t h = h t
 
-pub all_append : {X : Type 0} (P : X → Type 0) (xs ys : List X) → All P xs → All P ys → All P (xs ++ ys)
+pub all_append : {X : Type 0} (P : X → Type 0) (xs ys : List X) → AllByRecursion P xs → AllByRecursion P ys → AllByRecursion P (xs ++ ys)
 all_append P [] ys h k = k
 all_append P (x ∷ xs) ys h k = (h.0, all_append P xs ys h.1 k)
 
-pub all_map : {X Y : Type 0} (P : X → Type 0) (Q : Y → Type 0) (f : X → Y) → ((x : X) → P x → Q (f x)) → (xs : List X) → All P xs → All Q (map f xs)
+pub all_map : {X Y : Type 0} (P : X → Type 0) (Q : Y → Type 0) (f : X → Y) → ((x : X) → P x → Q (f x)) → (xs : List X) → AllByRecursion P xs → AllByRecursion Q (map f xs)
 all_map P Q f g [] h = tt
 all_map P Q f g (x ∷ xs) h = (g x h.0, all_map P Q f g xs h.1)
 
-pub all_weaker : {X : Type 0} (P Q : X → Type 0) → ((x : X) → P x → Q x) → (xs : List X) → All P xs → All Q xs
+pub all_weaker : {X : Type 0} (P Q : X → Type 0) → ((x : X) → P x → Q x) → (xs : List X) → AllByRecursion P xs → AllByRecursion Q xs
 all_weaker P Q g [] h = tt
 all_weaker P Q g (x ∷ xs) h = (g x h.0, all_weaker P Q g xs h.1)
 
-pub all_take : {X : Type 0} (P : X → Type 0) (n : ℕ) (xs : List X) → All P xs → All P (take n xs)
+pub all_take : {X : Type 0} (P : X → Type 0) (n : ℕ) (xs : List X) → AllByRecursion P xs → AllByRecursion P (take n xs)
 all_take P zero xs h = tt
 all_take P (suc n) [] h = tt
 all_take P (suc n) (x ∷ xs) h = (h.0, all_take P n xs h.1)
 
-pub all_drop : {X : Type 0} (P : X → Type 0) (n : ℕ) (xs : List X) → All P xs → All P (drop n xs)
+pub all_drop : {X : Type 0} (P : X → Type 0) (n : ℕ) (xs : List X) → AllByRecursion P xs → AllByRecursion P (drop n xs)
 all_drop P zero xs h = h
 all_drop P (suc n) [] h = tt
 all_drop P (suc n) (x ∷ xs) h = all_drop P n xs h.1

@@ -1,6 +1,6 @@
 -- What encoding gives for every form: its length, its first byte, and that it is of bytes.
 use Rattle.std.proofs.Common.{◌≡◌, ℕ, zero, suc, ◌+◌, ◌-◌, ◌*◌, ◌/◌, ◌^◌, ◌<◌, ◌≤◌, Bool, true, false, cond, ◌&&◌, eqb, ltb, List, [], ◌∷◌, map, length, get_or, drop, ℤ, sym, refl, ap, ◌∙◌, zero-add, arith, drop-cons}
-use Rattle.std.specs.List.{AllByRecursion as All}
+use Rattle.std.specs.List.{AllByRecursion}
 use Rattle.std.proofs.lemmas.Bool.{and_parts, eqb-true}
 use Rattle.form.specs.declared.Form.{Form}
 use Rattle.form.specs.declared.Form.TheVariants.{E, RiA, RiB, RiC, RieA, RieD, RieF, RieG, RilA, RilB, RilC, Rr, Rrd, Rre, RrfAb, RrfCde, Rs, Rsy, Rx, Rxy, Si, Sil, Siy, VriA, VriB, VriC, VriK, VrrA, VrrB, VrrC, VrrD, VrrE, VrrF, VrsA, VrsB, VrsC, Vrx}
@@ -39,12 +39,12 @@ value_small ds o xs rxb =
     let d = high_small xs (get_or ds 8 unused) in
     omega arith
 
-pairs_small : (w : Digit → ℕ) → ((d : Digit) → w d < 16) → (ds : List Digit) → All (λ b. b < 256) (pairs (map w ds))
+pairs_small : (w : Digit → ℕ) → ((d : Digit) → w d < 16) → (ds : List Digit) → AllByRecursion (λ b. b < 256) (pairs (map w ds))
 pairs_small w h [] = tt
 pairs_small w h (d ∷ []) = tt
 pairs_small w h (d ∷ e ∷ ds) = (let p = h d in let q = h e in omega arith, pairs_small w h ds)
 
-pub encode_bytes : (f : Form) (o : ℕ) (zs : List ℤ) → All (λ b. b < 256) (encode f o zs)
+pub encode_bytes : (f : Form) (o : ℕ) (zs : List ℤ) → AllByRecursion (λ b. b < 256) (encode f o zs)
 encode_bytes f o zs = pairs_small (value (row f) o (operands_bits (kinds f) zs)) (value_small (row f) o (operands_bits (kinds f) zs)) (row f)
 
 -- The length and the first byte.
@@ -300,11 +300,11 @@ opcode_spelled f bs h = gather_spelled (nibbles bs) 0 (row f) (nibbles_length bs
 
 -- The first byte is that of the opcode that is read.
 
-nibbles_small : (bs : List ℕ) → All (λ b. b < 256) bs → All (λ x. x < 16) (nibbles bs)
+nibbles_small : (bs : List ℕ) → AllByRecursion (λ b. b < 256) bs → AllByRecursion (λ x. x < 16) (nibbles bs)
 nibbles_small [] h = tt
 nibbles_small (b ∷ bs) h = (let s : b < 256 = h.0 in omega arith, (omega arith, nibbles_small bs h.1))
 
-getD_small : (xs : List ℕ) (i : ℕ) → All (λ x. x < 16) xs → get_or xs i 0 < 16
+getD_small : (xs : List ℕ) (i : ℕ) → AllByRecursion (λ x. x < 16) xs → get_or xs i 0 < 16
 getD_small [] i h = omega arith
 getD_small (x ∷ xs) zero h = h.0
 getD_small (x ∷ xs) (suc i) h = getD_small xs i h.1
@@ -322,7 +322,7 @@ read_three a b c h k = omega arith
 read_four : (a b c d : ℕ) → b < 16 → c < 16 → d < 16 → (a * 16 ^ 3 + (b * 16 ^ 2 + (c * 16 ^ 1 + (d * 16 ^ 0 + 0)))) / 16 ^ 2 ≡ 16 * a + b
 read_four a b c d h k l = omega arith
 
-first_spelled : (f : Form) (xs : List ℕ) → All (λ x. x < 16) xs → spelled (opcode_digits f) xs / 16 ^ (length (opcode_digits f) - 2) ≡ 16 * get_or xs 0 0 + get_or xs 1 0
+first_spelled : (f : Form) (xs : List ℕ) → AllByRecursion (λ x. x < 16) xs → spelled (opcode_digits f) xs / 16 ^ (length (opcode_digits f) - 2) ≡ 16 * get_or xs 0 0 + get_or xs 1 0
 first_spelled E xs h = read_four (get_or xs 0 0) (get_or xs 1 0) (get_or xs 2 0) (get_or xs 3 0) (getD_small xs 1 h) (getD_small xs 2 h) (getD_small xs 3 h)
 first_spelled RiA xs h = read_three (get_or xs 0 0) (get_or xs 1 0) (get_or xs 3 0) (getD_small xs 1 h) (getD_small xs 3 h)
 first_spelled RiB xs h = read_three (get_or xs 0 0) (get_or xs 1 0) (get_or xs 3 0) (getD_small xs 1 h) (getD_small xs 3 h)
@@ -361,7 +361,7 @@ first_spelled VrsB xs h = read_four (get_or xs 0 0) (get_or xs 1 0) (get_or xs 1
 first_spelled VrsC xs h = read_four (get_or xs 0 0) (get_or xs 1 0) (get_or xs 10 0) (get_or xs 11 0) (getD_small xs 1 h) (getD_small xs 10 h) (getD_small xs 11 h)
 first_spelled Vrx xs h = read_four (get_or xs 0 0) (get_or xs 1 0) (get_or xs 10 0) (get_or xs 11 0) (getD_small xs 1 h) (getD_small xs 10 h) (getD_small xs 11 h)
 
-pub first_of_opcode : (f : Form) (bs : List ℕ) → length bs ≡ size f → All (λ b. b < 256) bs → first_byte f (opcode_of f bs) ≡ head bs
+pub first_of_opcode : (f : Form) (bs : List ℕ) → length bs ≡ size f → AllByRecursion (λ b. b < 256) bs → first_byte f (opcode_of f bs) ≡ head bs
 first_of_opcode f bs h s =
     ap (λ (n : ℕ). n / 16 ^ (length (opcode_digits f) - 2)) (opcode_spelled f bs h) ∙ first_spelled f (nibbles bs) (nibbles_small bs s) ∙ head_whole bs
 

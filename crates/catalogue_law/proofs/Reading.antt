@@ -1,7 +1,7 @@
 -- Reading what was written: the catalogue's entries are told apart, so the reader finds the one that was meant.
 use Rattle.std.proofs.Common.{◌≡◌, ℕ, ◌+◌, ◌^◌, ◌<◌, ◌≤◌, Bool, true, false, cond, not, ◌||◌, eqb, leb, ◌⊎◌, List, [], ◌∷◌, ◌++◌, map, length, drop, Some, None, Ok, Option, Result, sym, refl, ap, ◌∙◌, subst, inl, inr, arith, length-append, drop-drop, take_at, drop_at}
 use mathlib.Core.List.{append_cancel_left}
-use Rattle.std.specs.List.{AllByRecursion as All}
+use Rattle.std.specs.List.{AllByRecursion}
 use Rattle.std.proofs.lemmas.Bool.{and_parts, and_from, and_cases, or_parts, or_cases, not-true, not-false, eqb-true, eqb-false, eq-eqb, leb-false, le-ltb}
 use Rattle.refusal.specs.declared.Refusal.{Refusal}
 use Rattle.form.specs.declared.Form.{Form}
@@ -184,7 +184,7 @@ module _ (inverts : WrittenIsRead) (es : List Entry) (told : Entries es) where
       ∙ rw (w.2, w.0)
 
   -- a list of instructions is told by its bytes
-  pub spelled_once : (is js : List Instr) → All (Catalogued es) is → All (Catalogued es) js → bytes_of_all is ≡ bytes_of_all js → is ≡ js
+  pub spelled_once : (is js : List Instr) → AllByRecursion (Catalogued es) is → AllByRecursion (Catalogued es) js → bytes_of_all is ≡ bytes_of_all js → is ≡ js
   spelled_once [] [] h k e = refl
   spelled_once [] (j ∷ js) h k e = absurd (shorter j (bytes_of_all js) e)
     where
@@ -212,7 +212,7 @@ module _ (inverts : WrittenIsRead) (es : List Entry) (told : Entries es) where
       λ k. s k ∷ r k
 
   -- reading from a place where the instructions' bytes stand, to the code's end
-  pub reads_all : (code : List ℕ) (at : ℕ) (is : List Placed) → Laid at is → All (λ i. Catalogued es i.instr) is → drop at code ≡ bytes_of_all (map (λ i. i.instr) is) → Reads es code at is
+  pub reads_all : (code : List ℕ) (at : ℕ) (is : List Placed) → Laid at is → AllByRecursion (λ i. Catalogued es i.instr) is → drop at code ≡ bytes_of_all (map (λ i. i.instr) is) → Reads es code at is
   reads_all code at [] l c e = end (stepped es code at (ap (read_rest es at) e))
   reads_all code at (i ∷ is) l c e =
       next

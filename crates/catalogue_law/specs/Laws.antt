@@ -1,6 +1,6 @@
 -- The laws of a catalogue: entries are told apart by bytes, and writing and reading are inverse.
 use Rattle.std.specs.Prelude.{◌≡◌, ℕ, ◌<◌, true, T, List, ◌++◌, take, Some, Ok}
-use Rattle.std.specs.List.{AllByRecursion as All}
+use Rattle.std.specs.List.{AllByRecursion}
 use Rattle.form.specs.declared.instr.Entry.{Entry}
 use Rattle.form.specs.declared.instr.Instr.{Instr}
 use Rattle.form.specs.declared.instr.Placed.{Placed}
@@ -11,7 +11,7 @@ use Rattle.catalogue_law.specs.Catalogue.{sound, catalogued, Catalogued, matches
 -- bytes belong to at most one entry
 abbrev pub OneEntry : Type 0
 OneEntry =
-    (es : List Entry) (bytes : List ℕ) (d e : Entry) → sound es ≡ true → All (λ b. b < 256) bytes
+    (es : List Entry) (bytes : List ℕ) (d e : Entry) → sound es ≡ true → AllByRecursion (λ b. b < 256) bytes
     → T (catalogued es d.form d.opcode) → T (catalogued es e.form e.opcode) → matches bytes d ≡ true → matches bytes e ≡ true → d ≡ e
 
 -- what is written is read back, whatever bytes follow it, also by a catalogue that has grown
@@ -23,5 +23,5 @@ WrittenIsReadBack =
 -- what is read is a catalogued instruction, whose bytes are those that were read
 abbrev pub ReadIsWrittenAgain : Type 0
 ReadIsWrittenAgain =
-    (es : List Entry) (at : ℕ) (bytes : List ℕ) (p : Placed) → All (λ b. b < 256) bytes → read_rest es at bytes ≡ Ok (Some p)
+    (es : List Entry) (at : ℕ) (bytes : List ℕ) (p : Placed) → AllByRecursion (λ b. b < 256) bytes → read_rest es at bytes ≡ Ok (Some p)
     → (p.place ≡ at) × Catalogued es p.instr × (bytes_of p.instr ≡ take (size p.instr.form) bytes)

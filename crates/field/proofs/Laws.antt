@@ -1,7 +1,7 @@
 -- What it means that a distance is accepted, and the family that overwrites its fields: it is lawful, whatever its table.
 use Rattle.std.proofs.Common.{◌≡◌, ℕ, zero, suc, ◌-◌, ◌*◌, ◌^◌, ◌<◌, ◌≤◌, Bool, true, false, cond, not, ◌||◌, ltb, List, [], ◌∷◌, ◌++◌, length, take, drop, ℤ, pos, negsuc, ◌*ℤ◌, is_err, Some, None, Ok, Err, Option, Result, sym, refl, ap, ◌∙◌, subst, append_assoc, arith, length-append, length-drop, length-take-le, take_at, drop_at}
 use lib.Signed.{mag, lt_z, shr_z}
-use Rattle.std.specs.List.{AllByRecursion as All}
+use Rattle.std.specs.List.{AllByRecursion}
 use Rattle.std.proofs.ByRecursion.{All-append, All-take, All-drop}
 use Rattle.std.proofs.lemmas.Bool.{both_ways, or_parts, not-false, ltb-false, le-ltb}
 use Rattle.refusal.specs.Refusals.{answered, unless}
@@ -18,11 +18,11 @@ pub same_some : {X : Type 0} {x y : X} → ◌≡◌ {A = Option X} (Some x) (So
 same_some h = cc
 
 -- a list of tests that refuses nothing
-pub none_refused : (ts : List (FieldRefusal × Bool)) → first_refused ts ≡ None → All (λ t. t.1 ≡ false) ts
+pub none_refused : (ts : List (FieldRefusal × Bool)) → first_refused ts ≡ None → AllByRecursion (λ t. t.1 ≡ false) ts
 none_refused [] e = tt
 none_refused (t ∷ ts) e = go t.1 refl e (none_refused ts)
   where
-    go : (b : Bool) → t.1 ≡ b → cond b (Some t.0) (first_refused ts) ≡ None → (first_refused ts ≡ None → All (λ t. t.1 ≡ false) ts) → (t.1 ≡ false) × All (λ t. t.1 ≡ false) ts
+    go : (b : Bool) → t.1 ≡ b → cond b (Some t.0) (first_refused ts) ≡ None → (first_refused ts ≡ None → AllByRecursion (λ t. t.1 ≡ false) ts) → (t.1 ≡ false) × AllByRecursion (λ t. t.1 ≡ false) ts
     go true p e h = never_none t.0 e
     go false p e h = (p, h e)
 
@@ -50,7 +50,7 @@ number_length : (n v : ℕ) → length (bytes_of_number n v) ≡ n
 number_length zero v = refl
 number_length (suc n) v = ap suc (number_length n v)
 
-number_bytes : (n v : ℕ) → All (λ b. b < 256) (bytes_of_number n v)
+number_bytes : (n v : ℕ) → AllByRecursion (λ b. b < 256) (bytes_of_number n v)
 number_bytes zero v = tt
 number_bytes (suc n) v = (omega arith, number_bytes n v)
 
@@ -104,7 +104,7 @@ over a i d bytes one fit ok =
         ∙ ap (take (i.past - i.first)) (drop_at (take i.first bytes) (num ++ drop i.past bytes) i.first front_length)
         ∙ take_at num (drop i.past bytes) (i.past - i.first) num_length
 
-overwrites : (a : ℕ) (i : FieldInfo) (d : ℤ) (bytes : List ℕ) → 1 ≤ a → Fits a i → All (λ b. b < 256) bytes → Accepted a i (length bytes) d → Patches a i d bytes (overwritten a (Some i) bytes d)
+overwrites : (a : ℕ) (i : FieldInfo) (d : ℤ) (bytes : List ℕ) → 1 ≤ a → Fits a i → AllByRecursion (λ b. b < 256) bytes → Accepted a i (length bytes) d → Patches a i d bytes (overwritten a (Some i) bytes d)
 overwrites a i d bytes one fit k ok =
     let o = over a i d bytes one fit ok in
     let n : ℕ = i.past - i.first in

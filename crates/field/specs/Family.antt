@@ -1,7 +1,7 @@
 -- Families of fields that hold a distance. A family has numbered kinds of fields; it reads and writes the field in bytes that it is given.
 use Rattle.std.specs.Prelude.{◌≡◌, ℕ, ◌+◌, ◌-◌, ◌*◌, ◌%◌, ◌<◌, ◌≤◌, Bool, true, false, cond, not, ◌&&◌, ◌||◌, ltb, List, [], ◌∷◌, ◌++◌, length, take, drop, ℤ, pos, ◌*ℤ◌, neg_ℤ, Some, None, Ok, Err, Option, Result, ◌==◌, int_le, int_lt, nat_lt, unsigned_abs}
 use Rattle.std.specs.Int.Signed.{shr_z}
-use Rattle.std.specs.List.{AllByRecursion as All}
+use Rattle.std.specs.List.{AllByRecursion}
 use Rattle.refusal.specs.declared.Reason.{Reason}
 use Rattle.refusal.specs.declared.Reason.TheVariants as why
 use Rattle.refusal.specs.declared.Refusal.{Refusal}
@@ -112,7 +112,7 @@ pub record Patches (a : ℕ) (i : FieldInfo) (d : ℤ) (old new : List ℕ) : Ty
   pub same_length : length new ≡ length old
   pub before : take i.first new ≡ take i.first old
   pub after : drop i.past new ≡ drop i.past old
-  pub bytes : All (λ b. b < 256) new
+  pub bytes : AllByRecursion (λ b. b < 256) new
   pub holds : big_endian 0 (field_bytes i old) ≡ 0 → pos a *ℤ field_value i new ≡ d
 
 pub record LawfulFields (F : Fields) : Type 0 where
@@ -121,7 +121,7 @@ pub record LawfulFields (F : Fields) : Type 0 where
 
 pub record Lawful (F : Family) : Type 0 where
   pub reads : LawfulFields F.fields
-  pub patches : (k : ℕ) (i : FieldInfo) (bytes : List ℕ) (d : ℤ) → All (λ b. b < 256) bytes → F.fields.table k ≡ Some i → refuses F.fields k (length bytes) d ≡ None → Patches F.fields.align i d bytes (F.patched k bytes d)
+  pub patches : (k : ℕ) (i : FieldInfo) (bytes : List ℕ) (d : ℤ) → AllByRecursion (λ b. b < 256) bytes → F.fields.table k ≡ Some i → refuses F.fields k (length bytes) d ≡ None → Patches F.fields.align i d bytes (F.patched k bytes d)
 
 -- What a section asks of a family: kinds 1 and 2 have their fields at instruction bytes 2 to 3 and 2 to 5.
 

@@ -2,7 +2,7 @@
 use Rattle.std.specs.Prelude.{◌≡◌, ℕ, ◌+◌, ◌%◌, ◌<◌, Bool, true, false, cond, List, [], ◌∷◌, length, ℤ, pos, negsuc, ◌*ℤ◌, neg_ℤ, Some, None, Option, ◌==◌, refl}
 use Rattle.std.proofs.Common.{sym, ap, subst, ◌∙◌, arith}
 use Rattle.std.specs.Int.Signed.{mag}
-use Rattle.std.specs.List.{AllByRecursion as All}
+use Rattle.std.specs.List.{AllByRecursion}
 use Rattle.std.proofs.lemmas.Int.{ints}
 use Rattle.refusal.specs.Numbers.{wrap, signed}
 use Rattle.field.specs.Family.{FieldInfo, refuses_by, Shape, Patches, Lawful}
@@ -32,7 +32,7 @@ unit (pos n) = ap pos (omega arith)
 unit (negsuc n) = omega (arith, ints)
 
 abbrev Adds : FieldInfo → Type 0
-Adds i = (k : ℕ) (bytes : List ℕ) (d : ℤ) → All (λ b. b < 256) bytes → Accepted 1 i (length bytes) d → Patches 1 i d bytes (added k bytes d)
+Adds i = (k : ℕ) (bytes : List ℕ) (d : ℤ) → AllByRecursion (λ b. b < 256) bytes → Accepted 1 i (length bytes) d → Patches 1 i d bytes (added k bytes d)
 
 adds : Adds added_info
 adds k [] d h a = let e = a.enough in absurd (omega arith)

@@ -1,7 +1,7 @@
 -- In which order an operand's digits stand in a row, and that a number is told by its digits in each of these orders.
 use Rattle.std.proofs.Common.{◌≡◌, ℕ, zero, suc, ◌+◌, ◌*◌, ◌/◌, ◌%◌, ◌^◌, ◌<◌, List, [], ◌∷◌, map, length, refl, ap, ◌∙◌, subst, arith}
 use lib.Arith.{mod-mul, digits_div}
-use Rattle.std.specs.List.{AllByRecursion as All}
+use Rattle.std.specs.List.{AllByRecursion}
 use Rattle.form.specs.Encode.{nibble}
 
 pub data Order : Type 0 where
@@ -75,11 +75,11 @@ spell zero (v ∷ vs) h = absurd (omega arith)
 spell (suc n) [] h = absurd (omega arith)
 spell (suc n) (v ∷ vs) h = let e = spell n vs (omega arith) in cc
 
-head_small : (vs : List ℕ) → All (λ v. v < 16) vs → head vs < 16
+head_small : (vs : List ℕ) → AllByRecursion (λ v. v < 16) vs → head vs < 16
 head_small [] h = omega arith
 head_small (v ∷ vs) h = h.0
 
-tail_small : (vs : List ℕ) → All (λ v. v < 16) vs → All (λ v. v < 16) (tail vs)
+tail_small : (vs : List ℕ) → AllByRecursion (λ v. v < 16) vs → AllByRecursion (λ v. v < 16) (tail vs)
 tail_small [] h = h
 tail_small (v ∷ vs) h = h.1
 
@@ -137,7 +137,7 @@ told_eight a b c d e f g h pa pb pc pd pe pf pg ph =
     let eh = at (sumw (listed eight) (a ∷ b ∷ c ∷ d ∷ e ∷ f ∷ g ∷ h ∷ [])) (a * 16777216 + b * 1048576 + c * 65536 + d * 4096 + e * 256 + f * 16 + g * 1) h (0) 1 (omega arith) (omega arith) (omega arith) ph in
     (cc, omega arith)
 
-pub told : (w : Order) (vs : List ℕ) → length vs ≡ length (listed w) → All (λ v. v < 16) vs → Told w vs
+pub told : (w : Order) (vs : List ℕ) → length vs ≡ length (listed w) → AllByRecursion (λ v. v < 16) vs → Told w vs
 told one vs l h =
     subst (λ (us : List ℕ). Told one us) (spell 1 vs l)
     (told_one (head vs)

@@ -3,7 +3,7 @@ use Rattle.std.proofs.Common.{◌≡◌, ℕ, zero, suc, ◌+◌, ◌-◌, ◌*�
 use mathlib.Core.Bool.{false≢true}
 use lib.Dec.{eqb_refl}
 use lib.ListN.{length-replicate}
-use Rattle.std.specs.List.{AllByRecursion as All}
+use Rattle.std.specs.List.{AllByRecursion}
 use Rattle.std.proofs.lemmas.Nat.{mod_below, mul-le}
 use Rattle.std.proofs.lemmas.Bool.Decides.{nat_tests}
 use Rattle.form.specs.declared.OperandKind.{OperandKind}
@@ -166,11 +166,11 @@ module _ (m : Digit → Bool) where
     more true e = ap suc e
     more false e = e
 
-  pick_small : (ds : List Digit) (xs : List ℕ) → All (λ x. x < 16) xs → All (λ x. x < 16) (pick m ds xs)
+  pick_small : (ds : List Digit) (xs : List ℕ) → AllByRecursion (λ x. x < 16) xs → AllByRecursion (λ x. x < 16) (pick m ds xs)
   pick_small [] xs h = tt
   pick_small (d ∷ ds) [] h = tt
   pick_small (d ∷ ds) (x ∷ xs) h = more (m d) (pick_small ds xs h.1) where
-    more : (b : Bool) → All (λ x. x < 16) (pick m ds xs) → All (λ x. x < 16) (cond b (x ∷ pick m ds xs) (pick m ds xs))
+    more : (b : Bool) → AllByRecursion (λ x. x < 16) (pick m ds xs) → AllByRecursion (λ x. x < 16) (cond b (x ∷ pick m ds xs) (pick m ds xs))
     more true e = (h.0, e)
     more false e = e
 
@@ -190,7 +190,7 @@ module _ (m : Digit → Bool) where
     is false e = e
 
   -- the number that they spell, where they stand in an order
-  told_by : (o : Order) (ds : List Digit) (xs : List ℕ) → weights m ds ≡ listed o → length xs ≡ length ds → All (λ x. x < 16) xs
+  told_by : (o : Order) (ds : List Digit) (xs : List ℕ) → weights m ds ≡ listed o → length xs ≡ length ds → AllByRecursion (λ x. x < 16) xs
       → (map (nibble (sumw (weights m ds) (pick m ds xs))) (weights m ds) ≡ pick m ds xs) × (sumw (weights m ds) (pick m ds xs) < limit o)
   told_by o ds xs e l h =
       subst (λ (ws : List ℕ). (map (nibble (sumw ws (pick m ds xs))) ws ≡ pick m ds xs) × (sumw ws (pick m ds xs) < limit o)) (sym e)
@@ -250,7 +250,7 @@ pairs_nibbles : (bs : List ℕ) → pairs (nibbles bs) ≡ bs
 pairs_nibbles [] = refl
 pairs_nibbles (b ∷ bs) = let e = pairs_nibbles bs in let h : 16 * (b / 16) + b % 16 ≡ b = omega arith in cc
 
-nibbles_small : (bs : List ℕ) → All (λ b. b < 256) bs → All (λ x. x < 16) (nibbles bs)
+nibbles_small : (bs : List ℕ) → AllByRecursion (λ b. b < 256) bs → AllByRecursion (λ x. x < 16) (nibbles bs)
 nibbles_small [] h = tt
 nibbles_small (b ∷ bs) h = let p = h.0 in (omega arith, (omega arith, nibbles_small bs h.1))
 
@@ -505,7 +505,7 @@ abbrev Read : ℕ → List Digit → OperandKind → List ℕ → Type 0
 Read i ds k xs =
     (map (nibble (field_of i ds xs)) (weights (of_operand i) ds) ≡ pick (of_operand i) ds xs) × (field_of i ds xs < 2 ^ bits (width k))
 
-read_field : (ds : List Digit) (xs : List ℕ) (i : ℕ) (k : OperandKind) → Fits i ds k → length xs ≡ length ds → All (λ x. x < 16) xs → Read i ds k xs
+read_field : (ds : List Digit) (xs : List ℕ) (i : ℕ) (k : OperandKind) → Fits i ds k → length xs ≡ length ds → AllByRecursion (λ x. x < 16) xs → Read i ds k xs
 read_field ds xs i k t l h = elim (by_kind k) [ inl p ↦ plainly p.0 p.1 | inr e ↦ subst (λ (j : OperandKind). Read i ds j xs) (sym e) (as_vector (subst (λ (j : OperandKind). Fits i ds j) e t)) ] where
   plainly : is_V k ≡ false → limit (order k) ≡ 2 ^ bits (width k) → Read i ds k xs
   plainly v e =
@@ -529,7 +529,7 @@ read_field ds xs i k t l h = elim (by_kind k) [ inl p ↦ plainly p.0 p.1 | inr 
 
 -- RXB, as read.
 
-getD_small : (xs : List ℕ) (n : ℕ) → All (λ x. x < 16) xs → get_or xs n 0 < 16
+getD_small : (xs : List ℕ) (n : ℕ) → AllByRecursion (λ x. x < 16) xs → get_or xs n 0 < 16
 getD_small [] n h = omega arith
 getD_small (x ∷ xs) zero h = h.0
 getD_small (x ∷ xs) (suc n) h = getD_small xs n h.1
@@ -644,7 +644,7 @@ written_operands ds o fs j (k ∷ ks) (z ∷ zs) e t h =
     cc (a, r, b)
 
 -- as read, before anything
-read_operands : (ds : List Digit) (xs : List ℕ) (j : ℕ) (ks : List OperandKind) (zs : List ℤ) → each j ds ks ≡ true → length xs ≡ length ds → All (λ x. x < 16) xs
+read_operands : (ds : List Digit) (xs : List ℕ) (j : ℕ) (ks : List OperandKind) (zs : List ℤ) → each j ds ks ≡ true → length xs ≡ length ds → AllByRecursion (λ x. x < 16) xs
     → (n : ℕ) → n < length ks → get_or (operands_bits ks (operands_from j ks ds xs ++ zs)) n 0 ≡ field_of (j + n) ds xs
 read_operands ds xs j [] zs e l s n h = absurd (omega arith)
 read_operands ds xs j (k ∷ ks) zs e l s zero h =
@@ -657,7 +657,7 @@ takes_none : (n : ℕ) → takes [] (replicate n (pos 0)) ≡ true
 takes_none zero = refl
 takes_none (suc n) = takes_none n
 
-read_takes : (ds : List Digit) (xs : List ℕ) (j : ℕ) (ks : List OperandKind) (n : ℕ) → each j ds ks ≡ true → length xs ≡ length ds → All (λ x. x < 16) xs
+read_takes : (ds : List Digit) (xs : List ℕ) (j : ℕ) (ks : List OperandKind) (n : ℕ) → each j ds ks ≡ true → length xs ≡ length ds → AllByRecursion (λ x. x < 16) xs
     → takes ks (operands_from j ks ds xs ++ replicate n (pos 0)) ≡ true
 read_takes ds xs j [] n e l s = takes_none n
 read_takes ds xs j (k ∷ ks) n e l s =
@@ -741,7 +741,7 @@ code_in ds xs = gather opcode_part ds xs
 abbrev fields_in : List Digit → List OperandKind → List ℕ → List ℕ
 fields_in ds ks xs = operands_bits ks (six (operands_from 0 ks ds xs))
 
-module _ (ds : List Digit) (ks : List OperandKind) (t : Sound ds ks) (xs : List ℕ) (l : length xs ≡ length ds) (s : All (λ x. x < 16) xs) where
+module _ (ds : List Digit) (ks : List OperandKind) (t : Sound ds ks) (xs : List ℕ) (l : length xs ≡ length ds) (s : AllByRecursion (λ x. x < 16) xs) where
   code_is : (map (nibble (code_in ds xs)) (weights of_opcode ds) ≡ pick of_opcode ds xs) × (code_in ds xs < 16 ^ length (opcode_places 0 ds))
   code_is =
       let g = gather_is of_opcode opcode_part opcode_part_is ds xs in
@@ -779,7 +779,7 @@ module _ (ds : List Digit) (ks : List OperandKind) (t : Sound ds ks) (xs : List 
       (λ i m. ap (λ (n : ℕ). map (nibble n) (weights (of_operand i) ds)) (field_is i m) ∙ (read_field ds xs i (get_or ks i M) (fits_at ds ks t i m) l s).0)
 
 read : (ds : List Digit) (ks : List OperandKind) → Sound ds ks
-    → (bytes : List ℕ) → length bytes ≡ length ds / 2 → All (λ b. b < 256) bytes → all_clean ds ds (nibbles bytes) ≡ true
+    → (bytes : List ℕ) → length bytes ≡ length ds / 2 → AllByRecursion (λ b. b < 256) bytes → all_clean ds ds (nibbles bytes) ≡ true
     → (write ds ks (gather opcode_part ds (nibbles bytes)) (six (operands_from 0 ks ds (nibbles bytes))) ≡ bytes)
     × (takes ks (six (operands_from 0 ks ds (nibbles bytes))) ≡ true)
     × (length (six (operands_from 0 ks ds (nibbles bytes))) ≡ 6)

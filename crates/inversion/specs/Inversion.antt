@@ -1,6 +1,6 @@
 -- Reading inverts writing, for every form.
 use Rattle.std.specs.Prelude.{◌≡◌, ℕ, ◌^◌, ◌<◌, true, List, length, ℤ}
-use Rattle.std.specs.List.{AllByRecursion as All}
+use Rattle.std.specs.List.{AllByRecursion}
 use Rattle.form.specs.declared.Form.{Form}
 use Rattle.form.specs.Form.{kinds, size, opcode_digits}
 use Rattle.form.specs.Encode.{encode, operands_of, opcode_of, clean, takes}
@@ -17,7 +17,7 @@ WrittenIsReadAt f =
 -- bytes with no unused digit set are what writing gives, of the opcode and the operands that are read, which the form takes
 abbrev pub ReadIsWrittenAt : Form → Type 0
 ReadIsWrittenAt f =
-    (bytes : List ℕ) → length bytes ≡ size f → All (λ b. b < 256) bytes → clean f bytes ≡ true
+    (bytes : List ℕ) → length bytes ≡ size f → AllByRecursion (λ b. b < 256) bytes → clean f bytes ≡ true
     → (encode f (opcode_of f bytes) (operands_of f bytes) ≡ bytes)
     × (takes (kinds f) (operands_of f bytes) ≡ true)
     × (length (operands_of f bytes) ≡ 6)

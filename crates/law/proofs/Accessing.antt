@@ -2,7 +2,7 @@
 use Rattle.std.proofs.Common.{◌≡◌, ℕ, suc, ◌-◌, ◌%◌, ◌^◌, Bool, true, false, cond, not, ◌&&◌, ltb, leb, List, [], ◌∷◌, ◌++◌, length, ℤ, pos, negsuc, Some, None, Option, refl, arith}
 use lib.Dec.{leb-zero}
 use lib.Signed.{le_z, lt_z}
-use Rattle.std.specs.List.{AllByRecursion as All}
+use Rattle.std.specs.List.{AllByRecursion}
 use Rattle.std.proofs.lemmas.Bool.{and_parts, and_from, or_left, or_right, ltb-true, lt-ltb}
 use Rattle.form.specs.declared.Form.{Form}
 use Rattle.form.specs.declared.Form.TheVariants.{RilA, RilB, Rs, Rsy, Rx, Rxy, Si, Sil, Siy, Vrx}
@@ -98,10 +98,10 @@ GoodHelper (lgfi rd n) = ltb rd.number 16 ≡ true
 GoodHelper (load_address rd a) = (gpr rd ≡ true) × Good a
 
 abbrev GoodFirst : Option Helper × Address → Type 0
-GoodFirst p = All GoodHelper (list_of (only p.0)) × Good p.1
+GoodFirst p = AllByRecursion GoodHelper (list_of (only p.0)) × Good p.1
 
 abbrev GoodPlan : Helpers × Address → Type 0
-GoodPlan p = All GoodHelper (list_of p.0) × Good p.1
+GoodPlan p = AllByRecursion GoodHelper (list_of p.0) × Good p.1
 
 module _ (C : Convention) (lc : lawful_convention C ≡ true) where
   stack_small : ltb C.stack 16 ≡ true
@@ -136,11 +136,11 @@ module _ (C : Convention) (lc : lawful_convention C ≡ true) where
       go false p true q = (tt, (h, refl, q))
       go false p false q = ((temporary_small, tt), (h, temporary_small, refl))
 
-  loaded_good : (mi : MemInstType) (hs : Option Helper) (a : Address) → All GoodHelper (list_of (only hs)) → Good a → GoodPlan (loaded C mi hs a)
+  loaded_good : (mi : MemInstType) (hs : Option Helper) (a : Address) → AllByRecursion GoodHelper (list_of (only hs)) → Good a → GoodPlan (loaded C mi hs a)
   unfolding gpr
   loaded_good mi hs a h k = go (must_load mi a)
     where
-      both : (x : Option Helper) → All GoodHelper (list_of (only x)) → All GoodHelper (list_of (also x (load_address (int_reg C.temporary) a)))
+      both : (x : Option Helper) → AllByRecursion GoodHelper (list_of (only x)) → AllByRecursion GoodHelper (list_of (also x (load_address (int_reg C.temporary) a)))
       both None h = ((temporary_small, k), tt)
       both (Some x) h = (h.0, ((temporary_small, k), tt))
 
@@ -183,13 +183,13 @@ module _ (C : Convention) (lc : lawful_convention C ≡ true) where
   and5 p q r s t = rw (p, q, r, s, t)
 
   by_sound : (es : List Entry) (f : Form) (q : Option ℕ) (t : Option Target) (zs : List ℤ) → all (in_es es) (entry_for f q) ≡ true → length (six zs) ≡ 6 → takes (kinds f) (six zs) ≡ true
-      → ((o : ℕ) → AimSound (instr f o zs) t) → All (SoundAimed es) (by q t (λ o. instr f o zs))
+      → ((o : ℕ) → AimSound (instr f o zs) t) → AllByRecursion (SoundAimed es) (by q t (λ o. instr f o zs))
   by_sound es f None t zs h n k a = tt
   by_sound es f (Some o) t zs h n k a =
       (record { catalogued = record { entry = true_T (and_parts (catalogued es f o) true h).0; six_operands = n; in_kind = true_T k }; aimed = a o }, tt)
 
   module _ (es : List Entry) where
-    accessing_sound : (a : Access) (x : Address) → Good x → all (in_es es) (opcodes a) ≡ true → data_fits a (not (displaced x)) ≡ true → All (SoundAimed es) (access_instr a x)
+    accessing_sound : (a : Access) (x : Address) → Good x → all (in_es es) (opcodes a) ≡ true → data_fits a (not (displaced x)) ≡ true → AllByRecursion (SoundAimed es) (access_instr a x)
     unfolding gpr gpr_or_fpr vr
     accessing_sound (Mem rd rx rxy ril) (bxd12 b x d fl) g h k =
         let p = all_parts (in_es es) (entry_for Rx rx ++ entry_for Rxy rxy) (entry_for RilB ril) h in
@@ -241,7 +241,7 @@ module _ (C : Convention) (lc : lawful_convention C ≡ true) where
     accessing_sound (MemVrx rd opcode m3) (symbol n offset fl) g h k = tt
 
     module _ (there : all (in_es es) initial ≡ true) where
-      helping_sound : (h : Helper) → GoodHelper h → All (SoundAimed es) (helper_instr h)
+      helping_sound : (h : Helper) → GoodHelper h → AllByRecursion (SoundAimed es) (helper_instr h)
       unfolding gpr_or_fpr gpr
       helping_sound (lgfi rd n) g =
           by_sound es RilA (Some 0xC01) None (pos rd.number ∷ pos (wrap 32 n) ∷ []) (and1 (and_parts (catalogued es RilA 0xC01) _ there).0) refl (and2 (plain_in 4 rd.number g) (plain_in 32 (wrap 32 n) (wrap_in n))) (λ o. tt)
@@ -251,12 +251,12 @@ module _ (C : Convention) (lc : lawful_convention C ≡ true) where
           either true = g.0
           either false = gpr_small rd g.0
 
-      helping_all_sound : (hs : List Helper) → All GoodHelper hs → All (SoundAimed es) (helper_instrs hs)
+      helping_all_sound : (hs : List Helper) → AllByRecursion GoodHelper hs → AllByRecursion (SoundAimed es) (helper_instrs hs)
       helping_all_sound [] g = tt
       helping_all_sound (h ∷ hs) g = all_append (SoundAimed es) (helper_instr h) (helper_instrs hs) (helping_sound h g.0) (helping_all_sound hs g.1)
 
   -- what an accepted access writes
-  pub access_sound : (s : State) (a : Access) (may_trap : Bool) (m : MemArg) (fr : Frame) → sound s.entries ≡ true → AccessAccepted C s (plan C a may_trap m fr) → All (SoundAimed s.entries) (plan C a may_trap m fr).items
+  pub access_sound : (s : State) (a : Access) (may_trap : Bool) (m : MemArg) (fr : Frame) → sound s.entries ≡ true → AccessAccepted C s (plan C a may_trap m fr) → AllByRecursion (SoundAimed s.entries) (plan C a may_trap m fr).items
   access_sound s a may_trap m fr ad h =
       let fit = and_parts (registers_fit m) (data_fits a (not (displaced (finalize C (permitted a may_trap) fr m).1))) h.operands in
       let g = finalize_good (permitted a may_trap) fr m fit.0 in

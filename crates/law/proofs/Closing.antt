@@ -1,7 +1,7 @@
 -- Closing: patching every use turns the bytes of the items into the bytes of the filled items.
 use Rattle.std.proofs.Common.{◌≡◌, ℕ, ◌+◌, ◌-◌, ◌*◌, ◌^◌, ◌<◌, true, List, [], ◌∷◌, ◌++◌, map, length, take, drop, set, ℤ, pos, ◌-ℤ◌, ◌*ℤ◌, Some, None, Ok, Option, Result, sym, refl, ap, ◌∙◌, subst, append_assoc, arith, length-append, length-drop, length-take, take_at, drop_at}
 use lib.Seq.{take-length, take-append-add, drop-append-add, take-append-le, drop-append-le}
-use Rattle.std.specs.List.{AllByRecursion as All}
+use Rattle.std.specs.List.{AllByRecursion}
 use Rattle.std.proofs.lemmas.Bool.{le-ltb}
 use Rattle.refusal.specs.Refusals.{when_some, unless}
 use Rattle.field.specs.Family.{field_refused_at}
@@ -166,8 +166,8 @@ record Step (L S : Family) (where_is : Target → Option ℤ) (es : List Entry) 
 
 pub record Closed (L S : Family) (where_is : Target → Option ℤ) (es : List Entry) (pre post : List ℕ) (at : ℕ) (its : List Item) : Type 0 where
   pub code : patched_all L S where_is (pre ++ (bytes_of_all (instrs its) ++ post)) (uses_of its) ≡ pre ++ (bytes_of_all (instrs (map (filled where_is) its)) ++ post)
-  pub sound : All (λ it. Catalogued es it.instr) (map (filled where_is) its)
-  pub holds : All (λ it. Held where_is it it.aim) (map (filled where_is) its)
+  pub sound : AllByRecursion (λ it. Catalogued es it.instr) (map (filled where_is) its)
+  pub holds : AllByRecursion (λ it. Held where_is it it.aim) (map (filled where_is) its)
   pub laid : Laid at (map as_placed (map (filled where_is) its))
 
 module _ (reads : ReadIsWritten) (inverts : WrittenIsRead) (L S : Family) (law-L : Lawful L) (law-S : Lawful S) (serves-L : serves L.fields ≡ true) (serves-S : serves S.fields ≡ true) (where_is : Target → Option ℤ) where
@@ -275,7 +275,7 @@ module _ (reads : ReadIsWritten) (inverts : WrittenIsRead) (L S : Family) (law-L
         close_aimed pre post at place t i its l (branch_is i.form c.aimed.0) st
         (go (pre ++ bytes_of j) (longer pre (bytes_of j) at (size i.form) here m) (len ∙ as_long pre (bytes_of i) (bytes_of j) (bytes_of_all (instrs its)) post (n ∙ sym m)) ok.1)
 
-    pub closed : (pre post code0 : List ℕ) (at : ℕ) (its : List Item) → length pre ≡ at → Laid at (map as_placed its) → All (λ it. Sound es it.instr it.aim) its
+    pub closed : (pre post code0 : List ℕ) (at : ℕ) (its : List Item) → length pre ≡ at → Laid at (map as_placed its) → AllByRecursion (λ it. Sound es it.instr it.aim) its
         → length code0 ≡ length (pre ++ (bytes_of_all (instrs its) ++ post)) → uses_refusal L S where_is code0 (uses_of its) ≡ None → Closed L S where_is es pre post at its
     closed pre post code0 at [] here l c len h = record { code = refl; sound = tt; holds = tt; laid = tt }
     closed pre post code0 at (it ∷ its) here l c len h =
@@ -289,7 +289,7 @@ module _ (reads : ReadIsWritten) (inverts : WrittenIsRead) (L S : Family) (law-L
       (h.1.0, h.1.1, held_there reads inverts (family_for L S t) (law_for t) (serves_for t) h.0 pre (bytes_of it.instr) rest it.place (h.1.0 -ℤ pos it.place) here (encode_length it.instr.form it.instr.opcode it.instr.operands) h.1.2)
 
   pub holds_all : (pre code : List ℕ) (at : ℕ) (its : List Item) → length pre ≡ at → code ≡ pre ++ bytes_of_all (instrs its) → Laid at (map as_placed its)
-      → All (λ it. Held where_is it it.aim) its → All (λ it. HoldsAim L S where_is code it it.aim) its
+      → AllByRecursion (λ it. Held where_is it it.aim) its → AllByRecursion (λ it. HoldsAim L S where_is code it it.aim) its
   holds_all pre code at [] here e l h = tt
   holds_all pre code at (it ∷ its) here e l h = (
     subst (λ (x : List ℕ). HoldsAim L S where_is x it it.aim) (sym e) (holds_one pre (bytes_of_all (instrs its)) it it.aim (here ∙ sym l.0) h.0),

@@ -2,7 +2,7 @@
 use Rattle.refusal.specs.Refusals.{answered, unless, ◌when◌, refused_at, Answer}
 use Rattle.address.specs.Convention.{Convention, lawful_convention}
 use Rattle.std.proofs.Common.{◌≡◌, ℕ, ◌+◌, Bool, true, false, cond, not, ◌&&◌, ltb, List, [], ◌∷◌, ◌++◌, map, length, take, drop, ℤ, Some, None, Ok, Option, sym, refl, ap, ◌∙◌, subst, arith, length-append, take-append-drop, take_at}
-use Rattle.std.specs.List.{AllByRecursion as All}
+use Rattle.std.specs.List.{AllByRecursion}
 use Rattle.std.proofs.lemmas.Bool.{and_parts, not-false}
 use Rattle.refusal.specs.declared.Reason.TheVariants as why
 use Rattle.refusal.specs.declared.Refusal.{Refusal}
@@ -43,7 +43,7 @@ module _ (C : Convention) (lc : lawful_convention C ≡ true) where
   abbrev pub ReachesWritten : Type 0
   ReachesWritten =
       (s : State) (a : Access) (may_trap : Bool) (m : MemArg) (fr : Frame) → access_refusal C s a may_trap m fr ≡ None
-      → (where_is : Target → Option ℤ) → All (λ w. AimFound where_is w.aim) (plan C a may_trap m fr).items
+      → (where_is : Target → Option ℤ) → AllByRecursion (λ w. AimFound where_is w.aim) (plan C a may_trap m fr).items
       → (from : ℕ) → Reaches C where_is (mode C fr m) (map as_placed (map (filled where_is) (placed_from from (plan C a may_trap m fr).items)))
 
   -- Filling.
@@ -92,37 +92,37 @@ module _ (C : Convention) (lc : lawful_convention C ≡ true) where
   held_found where_is it None h = tt
   held_found where_is it (Some t) h = (h.1.0, h.1.1)
 
-  all_found : (where_is : Target → Option ℤ) (its : List Item) → All (λ it. Held where_is it it.aim) (map (filled where_is) its) → All (λ it. AimFound where_is it.aim) its
+  all_found : (where_is : Target → Option ℤ) (its : List Item) → AllByRecursion (λ it. Held where_is it it.aim) (map (filled where_is) its) → AllByRecursion (λ it. AimFound where_is it.aim) its
   all_found where_is [] h = tt
   all_found where_is (it ∷ its) h =
       (subst (AimFound where_is) (filled_by_aim where_is it it.aim) (held_found where_is (filled where_is it) (filled where_is it).aim h.0), all_found where_is its h.1)
 
-  all_left : {X : Type 0} (P : X → Type 0) (xs ys : List X) → All P (xs ++ ys) → All P xs
+  all_left : {X : Type 0} (P : X → Type 0) (xs ys : List X) → AllByRecursion P (xs ++ ys) → AllByRecursion P xs
   all_left P [] ys h = tt
   all_left P (x ∷ xs) ys h = (h.0, all_left P xs ys h.1)
 
-  all_right : {X : Type 0} (P : X → Type 0) (xs ys : List X) → All P (xs ++ ys) → All P ys
+  all_right : {X : Type 0} (P : X → Type 0) (xs ys : List X) → AllByRecursion P (xs ++ ys) → AllByRecursion P ys
   all_right P [] ys h = h
   all_right P (x ∷ xs) ys h = all_right P xs ys h.1
 
-  placed_found : (where_is : Target → Option ℤ) (from : ℕ) (ws : List Aimed) → All (λ it. AimFound where_is it.aim) (placed_from from ws) → All (λ w. AimFound where_is w.aim) ws
+  placed_found : (where_is : Target → Option ℤ) (from : ℕ) (ws : List Aimed) → AllByRecursion (λ it. AimFound where_is it.aim) (placed_from from ws) → AllByRecursion (λ w. AimFound where_is w.aim) ws
   placed_found where_is from [] h = tt
   placed_found where_is from (w ∷ ws) h = (h.0, placed_found where_is (from + size w.instr.form) ws h.1)
 
   -- Accesses.
 
   module _ (reaching : ReachesWritten) (where_is : Target → Option ℤ) where
-    reaches_one : (address : Option Mode) (its : List Item) → FromAccess C address its → All (λ it. AimFound where_is it.aim) its → ReachesNamed C where_is address (map (filled where_is) its)
+    reaches_one : (address : Option Mode) (its : List Item) → FromAccess C address its → AllByRecursion (λ it. AimFound where_is it.aim) its → ReachesNamed C where_is address (map (filled where_is) its)
     reaches_one None its h k = tt
     reaches_one (Some md) its h k =
         let ws = (plan C h.access h.may_trap h.mem h.frame).items in
-        let found = placed_found where_is h.from ws (subst (λ (x : List Item). All (λ it. AimFound where_is it.aim) x) h.items k) in
+        let found = placed_found where_is h.from ws (subst (λ (x : List Item). AllByRecursion (λ it. AimFound where_is it.aim) x) h.items k) in
         let r = reaching h.state h.access h.may_trap h.mem h.frame h.accepted where_is found h.from in
         subst (λ (x : Mode). Reaches C where_is x (map as_placed (map (filled where_is) its))) (sym h.named)
         (subst (λ (x : List Item). Reaches C where_is (mode C h.frame h.mem) (map as_placed (map (filled where_is) x))) (sym h.items) r)
 
-    reaches_all : (gs : List Group) → All (λ g. FromAccess C g.address g.items) gs → All (λ it. AimFound where_is it.aim) (items_of gs)
-        → All (λ g. ReachesNamed C where_is g.address g.items) (map (filled_group where_is) gs)
+    reaches_all : (gs : List Group) → AllByRecursion (λ g. FromAccess C g.address g.items) gs → AllByRecursion (λ it. AimFound where_is it.aim) (items_of gs)
+        → AllByRecursion (λ g. ReachesNamed C where_is g.address g.items) (map (filled_group where_is) gs)
     reaches_all [] h k = tt
     reaches_all (g ∷ gs) h k = (
       reaches_one g.address g.items h.0 (all_left (λ it. AimFound where_is it.aim) g.items (items_of gs) k),
@@ -198,7 +198,7 @@ module _ (C : Convention) (lc : lawful_convention C ≡ true) where
       abbrev items : items_of (map (filled_group where_is) v.groups) ≡ full
       items = items_filled where_is v.groups
 
-      listed : All (Catalogued s.entries) (instrs full)
+      listed : AllByRecursion (Catalogued s.entries) (instrs full)
       listed = all_map (λ it. Catalogued s.entries it.instr) (Catalogued s.entries) (λ it. it.instr) (λ it h. h) full all_closed.sound
 
       pub faithful : Faithful C L S s.entries symbols (take s.books.len code) (filled_all v symbols)
@@ -211,11 +211,11 @@ module _ (C : Convention) (lc : lawful_convention C ≡ true) where
                 (all_map (λ it. Catalogued s.entries it.instr) (λ i. Catalogued s.entries i.instr) as_placed (λ it h. h) full all_closed.sound)
                 (finished ∙ ap bytes_of_all (sym (placed_instrs full))));
             ends = ends_at s.entries (take s.books.len code) v.len (ap length finished ∙ full_length ∙ m.len);
-            lists = subst (λ (x : List Item). All (Catalogued s.entries) (instrs x)) (sym items) listed;
+            lists = subst (λ (x : List Item). AllByRecursion (Catalogued s.entries) (instrs x)) (sym items) listed;
             spells = ap (λ (x : List Item). bytes_of_all (instrs x)) items ∙ sym finished;
             unique = λ is h e. spelled_once inverts s.entries told is (instrs full) h listed (e ∙ finished) ∙ ap instrs (sym items);
             holds =
-                subst (λ (x : List Item). All (λ it. HoldsAim L S where_is (take s.books.len code) it it.aim) x) (sym items)
+                subst (λ (x : List Item). AllByRecursion (λ it. HoldsAim L S where_is (take s.books.len code) it it.aim) x) (sym items)
                 (holds_all reads inverts L S law-L law-S serves-L serves-S where_is [] (take s.books.len code) 0 full refl finished all_closed.laid all_closed.holds);
             reaches = reaches_all reaching where_is v.groups m.groups (all_found where_is its all_closed.holds);
           }

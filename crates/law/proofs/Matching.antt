@@ -2,7 +2,7 @@
 use Rattle.address.specs.Convention.{Convention}
 use Rattle.std.proofs.Common.{◌≡◌, ℕ, ◌+◌, ◌≤◌, List, [], ◌∷◌, ◌++◌, map, length, take, drop, Option, sym, refl, ap, ◌∙◌, subst, append_assoc, append-nil, arith, length-append, length-drop, length-take-le, take_at}
 use lib.Seq.{take-length}
-use Rattle.std.specs.List.{AllByRecursion as All}
+use Rattle.std.specs.List.{AllByRecursion}
 use Rattle.form.specs.declared.instr.Entry.{Entry}
 use Rattle.form.specs.Form.{size}
 use Rattle.address.specs.Address.{Mode}
@@ -87,7 +87,7 @@ module _ (its : List Item) (s : State) (m : Wrote its s) (w : Aimed) (ok : Sound
         fits = there;
       }
 
-pub wrote_all : (its : List Item) (s : State) (ws : List Aimed) → Wrote its s → All (SoundAimed s.entries) ws → s.books.len + size_of_all ws ≤ s.books.room → Wrote (its ++ placed_from s.books.len ws) (written s ws)
+pub wrote_all : (its : List Item) (s : State) (ws : List Aimed) → Wrote its s → AllByRecursion (SoundAimed s.entries) ws → s.books.len + size_of_all ws ≤ s.books.room → Wrote (its ++ placed_from s.books.len ws) (written s ws)
 wrote_all its s [] m ok there = subst (λ (x : List Item). Wrote x s) (sym (append-nil its)) m
 wrote_all its s (w ∷ ws) m ok there =
     subst (λ (x : List Item). Wrote x (written s (w ∷ ws))) (append_assoc its (record { place = s.books.len; instr = w.instr; aim = w.aim } ∷ []) (placed_from (s.books.len + size w.instr.form) ws))
@@ -101,7 +101,7 @@ written_labels : (s : State) (ws : List Aimed) → (written s ws).books.labels �
 written_labels s [] = refl
 written_labels s (w ∷ ws) = written_labels (written_one s w) ws
 
-pub match_written : (C : Convention) (v : Inventory) (s : State) (address : Option Mode) (ws : List Aimed) → Matches C v s → All (SoundAimed s.entries) ws → s.books.len + size_of_all ws ≤ s.books.room
+pub match_written : (C : Convention) (v : Inventory) (s : State) (address : Option Mode) (ws : List Aimed) → Matches C v s → AllByRecursion (SoundAimed s.entries) ws → s.books.len + size_of_all ws ≤ s.books.room
     → FromAccess C address (placed_from v.len ws) → Matches C (added v address ws) (written s ws)
 match_written C v s address ws m ok there from =
     record {

@@ -2,7 +2,7 @@
 use Rattle.std.proofs.Common.{◌≡◌, ℕ, ◌+◌, ◌-◌, ◌*◌, ◌^◌, ◌<◌, ◌≤◌, true, false, ◌&&◌, eqb, ◌⊎◌, List, [], ◌∷◌, ◌++◌, length, take, drop, set, ℤ, pos, ◌*ℤ◌, neg_ℤ, Some, None, Option, sym, refl, ap, ◌∙◌, subst, inl, inr, arith, length-append, length-drop, take-append-drop, length-take-le, take_all, drop-drop, take-add}
 use lib.Signed.{le_z}
 use lib.Seq.{take-append-add, drop-append-add}
-use Rattle.std.specs.List.{AllByRecursion as All}
+use Rattle.std.specs.List.{AllByRecursion}
 use Rattle.std.proofs.lemmas.Bool.{and_parts, or_cases, eqb-true}
 use Rattle.form.specs.declared.Form.{Form}
 use Rattle.form.specs.declared.Form.TheVariants.{RiB, RiC, RilB, RilC}
@@ -213,7 +213,7 @@ pub record PatchedOne (f : Form) (o : ℕ) (z d : ℤ) (b : List ℕ) : Type 0 w
 
 -- bytes that have the front of an instruction with distance 0, and d in the field
 refilled : ReadIsWritten → WrittenIsRead → {f : Form} → Branch f → (o : ℕ) (z d : ℤ) (b : List ℕ) → o < 16 ^ length (opcode_digits f) → takes (kinds f) (six (z ∷ [])) ≡ true
-    → length b ≡ size f → All (λ x. x < 256) b → take 2 b ≡ take 2 (encode f o (six (z ∷ []))) → pos 2 *ℤ signed (8 * (size f - 2)) (big_endian 0 (drop 2 b)) ≡ d → PatchedOne f o z d b
+    → length b ≡ size f → AllByRecursion (λ x. x < 256) b → take 2 b ≡ take 2 (encode f o (six (z ∷ []))) → pos 2 *ℤ signed (8 * (size f - 2)) (big_endian 0 (drop 2 b)) ≡ d → PatchedOne f o z d b
 refilled reads inverts {f} br o z d b digits kind len small front holds =
     record { bytes = sym (ap (λ (x : ℕ). encode f x (operands_of f b)) (sym opcode_same) ∙ r.0) ∙ ap (encode f o) operands_same; in_kind = subst (λ (x : List ℤ). takes (kinds f) x ≡ true) operands_same r.1; held = holds }
   where
@@ -291,7 +291,7 @@ module _ (reads : ReadIsWritten) (inverts : WrittenIsRead) (F : Family) (lawful 
       long : 2 ≤ length old
       long = let e = old_length in let g = (refields br).least in omega arith
 
-      old_bytes : All (λ x. x < 256) (drop i.lead old)
+      old_bytes : AllByRecursion (λ x. x < 256) (drop i.lead old)
       old_bytes = all_drop (λ x. x < 256) i.lead old (encode_bytes f o (six (z ∷ [])))
 
       law : Patches F.fields.align i d (drop i.lead old) new

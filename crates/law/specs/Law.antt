@@ -1,7 +1,7 @@
 -- The law of a finished section: the code says what the calls have put in.
 use Rattle.address.specs.Convention.{Convention, lawful_convention}
 use Rattle.std.specs.Prelude.{◌≡◌, ℕ, true, ◌≢◌, List, [], ◌∷◌, ◌++◌, map, length, take, ℤ, pos, ◌-ℤ◌, Some, None, Ok, Err, Option}
-use Rattle.std.specs.List.{AllByRecursion as All}
+use Rattle.std.specs.List.{AllByRecursion}
 use Rattle.form.specs.declared.instr.Entry.{Entry}
 use Rattle.catalogue_law.specs.Catalogue.{Catalogued, sound, Reads, read_step}
 use Rattle.form.specs.declared.instr.Instr.{Instr}
@@ -71,13 +71,13 @@ pub record Faithful (C : Convention) (L S : Family) (entries : List Entry) (symb
   pub whole : length code ≡ v.len
   pub reads : Reads entries code 0 (map as_placed (items_of v.groups))
   pub ends : read_step entries code v.len ≡ (Ok None, v.len)
-  pub lists : All (Catalogued entries) (instrs_of v)
+  pub lists : AllByRecursion (Catalogued entries) (instrs_of v)
   pub spells : bytes_of_all (instrs_of v) ≡ code
-  pub unique : (is : List Instr) → All (Catalogued entries) is → bytes_of_all is ≡ code → is ≡ instrs_of v
+  pub unique : (is : List Instr) → AllByRecursion (Catalogued entries) is → bytes_of_all is ≡ code → is ≡ instrs_of v
   -- (b) each aimed field holds its distance, as its family reads it
-  pub holds : All (λ it. HoldsAim L S (place_of v.labels symbols) code it it.aim) (items_of v.groups)
+  pub holds : AllByRecursion (λ it. HoldsAim L S (place_of v.labels symbols) code it it.aim) (items_of v.groups)
   -- (c) each access reaches the address that it named
-  pub reaches : All (λ g. ReachesNamed C (place_of v.labels symbols) g.address g.items) v.groups
+  pub reaches : AllByRecursion (λ g. ReachesNamed C (place_of v.labels symbols) g.address g.items) v.groups
 
 -- What an accepted close promises of the section s that it closed: whatever calls have led to s, the finished code is faithful to them, under
 -- the catalogue at close and under each that admitting makes of it later.

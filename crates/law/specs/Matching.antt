@@ -1,7 +1,7 @@
 -- What a section holds is what the calls have put in: the relation between an inventory and a state that every call keeps.
 use Rattle.address.specs.Convention.{Convention}
 use Rattle.std.specs.Prelude.{◌≡◌, ℕ, ◌+◌, ◌≤◌, Bool, true, List, [], ◌∷◌, ◌++◌, map, length, take, ℤ, Some, None, Option}
-use Rattle.std.specs.List.{AllByRecursion as All}
+use Rattle.std.specs.List.{AllByRecursion}
 use Rattle.form.specs.declared.instr.Entry.{Entry}
 use Rattle.address.specs.declared.args.MemArg.{MemArg}
 use Rattle.address.specs.declared.frame.Frame.{Frame}
@@ -45,7 +45,7 @@ pub record Wrote (its : List Item) (s : State) : Type 0 where
   pub uses : s.books.uses ≡ uses_of its
   pub laid : Laid 0 (map as_placed its)
   pub total : s.books.len ≡ sizes its
-  pub sound : All (λ it. Sound s.entries it.instr it.aim) its
+  pub sound : AllByRecursion (λ it. Sound s.entries it.instr it.aim) its
   pub entries : sound_catalogue s.entries ≡ true
   pub room : length s.code ≡ s.books.room
   pub fits : s.books.len ≤ s.books.room
@@ -70,4 +70,4 @@ pub record Matches (C : Convention) (v : Inventory) (s : State) : Type 0 where
   pub len : s.books.len ≡ v.len
   pub labels : s.books.labels ≡ v.labels
   pub wrote : Wrote (items_of v.groups) s
-  pub groups : All (λ g. FromAccess C g.address g.items) v.groups
+  pub groups : AllByRecursion (λ g. FromAccess C g.address g.items) v.groups

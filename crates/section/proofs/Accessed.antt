@@ -1,6 +1,6 @@
 -- An access, from its plan and from space.
 use Rattle.std.proofs.Common.{◌≡◌, ℕ, ◌+◌, ◌≤◌, Bool, true, false, cond, ◌&&◌, leb, List, [], ◌∷◌, ◌++◌, length, Some, None, Ok, Err, Option, Result, sym, refl, ap, ◌∙◌, subst, arith}
-use Rattle.std.specs.List.{AllByRecursion as All}
+use Rattle.std.specs.List.{AllByRecursion}
 use Rattle.std.proofs.lemmas.Bool.{leb-false}
 use Rattle.refusal.specs.declared.Reason.{Reason}
 use Rattle.refusal.specs.declared.Reason.TheVariants as why
@@ -45,7 +45,7 @@ free_uses : (o : Option Target) (us : List Use) → (leaves_use o && leb 1024 (l
 free_uses None us h k = omega arith
 free_uses (Some t) us h k = let l = leb-false 1024 (length us) h in omega arith
 
-kinds_of : (es : List Entry) (ws : List Aimed) → All (SoundAimed es) ws → All (λ w. takes (kinds w.instr.form) w.instr.operands ≡ true) ws
+kinds_of : (es : List Entry) (ws : List Aimed) → AllByRecursion (SoundAimed es) ws → AllByRecursion (λ w. takes (kinds w.instr.form) w.instr.operands ≡ true) ws
 kinds_of es [] h = tt
 kinds_of es (w ∷ ws) h = (T_true h.0.catalogued.in_kind, kinds_of es ws h.1)
 

@@ -1,7 +1,7 @@
 -- What fits, after some of it was written.
 use Rattle.std.proofs.Common.{◌≡◌, ℕ, ◌+◌, ◌≤◌, true, false, ◌&&◌, leb, List, [], ◌∷◌, ◌++◌, length, Some, None, Ok, Option, sym, refl, ap, ◌∙◌, subst, arith, length-append}
 use lib.Seq.{length-paste}
-use Rattle.std.specs.List.{AllByRecursion as All}
+use Rattle.std.specs.List.{AllByRecursion}
 use Rattle.std.proofs.lemmas.Bool.{lt-leb}
 use Rattle.form.specs.declared.Form.{Form}
 use Rattle.form.specs.Form.{kinds}
@@ -27,7 +27,7 @@ pub aims_append : (xs ys : List Aimed) → aims (xs ++ ys) ≡ aims xs + aims ys
 aims_append [] ys = omega arith
 aims_append (x ∷ xs) ys = let h = aims_append xs ys in omega arith
 
-all_left : (P : Aimed → Type 0) (xs ys : List Aimed) → All P (xs ++ ys) → All P xs
+all_left : (P : Aimed → Type 0) (xs ys : List Aimed) → AllByRecursion P (xs ++ ys) → AllByRecursion P xs
 all_left P [] ys h = tt
 all_left P (x ∷ xs) ys h = (h.0, all_left P xs ys h.1)
 

@@ -1,6 +1,6 @@
 -- Instructions that can be written at the end, with no further test.
 use Rattle.std.specs.Prelude.{◌≡◌, ℕ, ◌+◌, ◌≤◌, true, List, [], ◌∷◌, length, Some, None, Option}
-use Rattle.std.specs.List.{AllByRecursion as All}
+use Rattle.std.specs.List.{AllByRecursion}
 use Rattle.form.specs.Form.{kinds}
 use Rattle.form.specs.Encode.{takes}
 use Rattle.book.specs.declared.target.Target.{Target}
@@ -20,5 +20,5 @@ aims (w ∷ ws) = one_aim w.aim + aims ws
 pub record Fits (s : State) (ws : List Aimed) : Type 0 where
   pub ours : length s.code ≡ s.books.room
   pub room : s.books.len + size_of_all ws ≤ s.books.room
-  pub in_kind : All (λ w. takes (kinds w.instr.form) w.instr.operands ≡ true) ws
+  pub in_kind : AllByRecursion (λ w. takes (kinds w.instr.form) w.instr.operands ≡ true) ws
   pub uses : length s.books.uses + aims ws ≤ 1024

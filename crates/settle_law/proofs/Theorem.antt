@@ -1,6 +1,6 @@
 -- Settling, by the families' laws.
 use Rattle.std.proofs.Common.{◌≡◌, ℕ, ◌+◌, ◌-◌, ◌*◌, ◌<◌, ◌≤◌, min, false, cond, ltb, ◌⊎◌, List, [], ◌∷◌, ◌++◌, length, get_or, take, drop, ℤ, pos, ◌-ℤ◌, ◌*ℤ◌, Some, None, Ok, Err, Option, sym, refl, ap, ◌∙◌, subst, inl, inr, ⊎_elim, arith}
-use Rattle.std.specs.List.{AllByRecursion as All}
+use Rattle.std.specs.List.{AllByRecursion}
 use Rattle.std.proofs.ByRecursion.{All-append, All-take, All-drop}
 use Rattle.std.proofs.lemmas.Bool.{le-ltb}
 use Rattle.refusal.specs.declared.Refusal.{Refusal}
@@ -119,7 +119,7 @@ module _ (L S : Family) (l : Lawful L) (m : Lawful S) (where_is : Target → Opt
       → ((k : ℕ) → field_from i u ≤ k → k < field_past i u → get_or new k 0 ≡ get_or old k 0) → field_bytes i (window_of (Some i) u.place new) ≡ field_bytes i (window_of (Some i) u.place old)
   agreeing u i new old t h agree = same_field (u.place + i.lead) i.size i.first i.past new old h (in_window u i t) agree
 
-  outsides : (u : Use) (i : FieldInfo) → info_of L S u ≡ Some i → (k : ℕ) → field_from i u ≤ k → k < field_past i u → (vs : List Use) → All (Apart L S u) vs → All (Outside L S k) vs
+  outsides : (u : Use) (i : FieldInfo) → info_of L S u ≡ Some i → (k : ℕ) → field_from i u ≤ k → k < field_past i u → (vs : List Use) → AllByRecursion (Apart L S u) vs → AllByRecursion (Outside L S k) vs
   outsides u i t k lo hi [] a = tt
   outsides u i t k lo hi (v ∷ vs) a = (
     (λ j tj. ⊎_elim (λ (p : field_past i u ≤ field_from j v). inl (omega arith)) (λ (p : field_past j v ≤ field_from i u). inr (omega arith)) (a.0 i j t tj)),
@@ -139,13 +139,13 @@ module _ (L S : Family) (l : Lawful L) (m : Lawful S) (where_is : Target → Opt
   -- the first use is patched, and the others after it
   module _ (u : Use) (us : List Use) (i : FieldInfo) (p : ℤ) (code mid new : List ℕ) (ti : info_of L S u ≡ Some i) (found : where_is u.target ≡ Some p)
       (o : One (family_for L S u.target) u i (p -ℤ pos u.place) code mid) (rest : Settled L S where_is us mid new) where
-    holds_first : (v : Use) → u ≡ v → All (Apart L S v) us → Zero L S code v → Holds L S where_is new v
+    holds_first : (v : Use) → u ≡ v → AllByRecursion (Apart L S v) us → Zero L S code v → Holds L S where_is new v
     holds_first v e a z =
         subst (Holds L S where_is new) e
         (λ p' e'.
         let x : p ≡ p' = same_some (sym found ∙ e') in
         let f : field_bytes i (window_of (Some i) u.place new) ≡ field_bytes i (window_of (Some i) u.place mid) =
-        agreeing u i new mid ti rest.same_length (λ k lo hi. rest.untouched k (outsides u i ti k lo hi us (subst (λ (w : Use). All (Apart L S w) us) (sym e) a))) in
+        agreeing u i new mid ti rest.same_length (λ k lo hi. rest.untouched k (outsides u i ti k lo hi us (subst (λ (w : Use). AllByRecursion (Apart L S w) us) (sym e) a))) in
         let F = family_for L S u.target in
         held_here u i (p' -ℤ pos u.place) code new ti o.enough (rest.same_length ∙ o.same)
         (ap (λ (w : List ℕ). pos F.fields.align *ℤ signed (8 * (i.past - i.first)) (big_endian 0 w)) f
@@ -158,8 +158,8 @@ module _ (L S : Family) (l : Lawful L) (m : Lawful S) (where_is : Target → Opt
         (λ k lo hi. o.outside k (⊎_elim (λ (q : field_past j v ≤ field_from i u). inl (omega arith)) (λ (q : field_past i u ≤ field_from j v). inr (omega arith)) (a j i tj ti))))
         ∙ z j tj
 
-    holds_one : (before after : List Use) (v : Use) → u ∷ us ≡ before ++ v ∷ after → All (Apart L S v) before → All (Apart L S v) after → Zero L S code v → Holds L S where_is new v
-    holds_one [] after v e b a z = holds_first v (head_is e) (subst (All (Apart L S v)) (sym (tail_is e)) a) z
+    holds_one : (before after : List Use) (v : Use) → u ∷ us ≡ before ++ v ∷ after → AllByRecursion (Apart L S v) before → AllByRecursion (Apart L S v) after → Zero L S code v → Holds L S where_is new v
+    holds_one [] after v e b a z = holds_first v (head_is e) (subst (AllByRecursion (Apart L S v)) (sym (tail_is e)) a) z
     holds_one (w ∷ before) after v e b a z = rest.holds before after v (tail_is e) b.1 a (still_zero v (subst (Apart L S v) (sym (head_is e)) b.0) z)
 
     settled_more : Settled L S where_is (u ∷ us) code new

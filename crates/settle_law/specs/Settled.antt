@@ -1,6 +1,6 @@
 -- What settling does to the code, by the families' laws alone.
 use Rattle.std.specs.Prelude.{◌≡◌, ℕ, ◌+◌, ◌<◌, ◌≤◌, ◌⊎◌, List, ◌∷◌, ◌++◌, length, ℤ, pos, ◌-ℤ◌, Some, None, Ok, Option, slice_index}
-use Rattle.std.specs.List.{AllByRecursion as All}
+use Rattle.std.specs.List.{AllByRecursion}
 use Rattle.refusal.specs.Numbers.{big_endian}
 use Rattle.field.specs.Family.{FieldInfo, Family, Lawful, field_bytes}
 use Rattle.refusal.specs.Refusals.{Answer, answered, unless}
@@ -11,7 +11,7 @@ use Rattle.book.specs.declared.target.Use.{Use}
 use Rattle.settle_law.specs.Settle.{family_for, held_at, window_of, uses_refusal, patched_all}
 
 abbrev pub Bytes : List ℕ → Type 0
-Bytes xs = All (λ b. b < 256) xs
+Bytes xs = AllByRecursion (λ b. b < 256) xs
 
 -- what the family of a use's target tells of its kind
 abbrev pub info_of : Family → Family → Use → Option FieldInfo
@@ -44,8 +44,8 @@ Holds L S where_is code u = (p : ℤ) → where_is u.target ≡ Some p → held_
 pub record Settled (L S : Family) (where_is : Target → Option ℤ) (us : List Use) (old new : List ℕ) : Type 0 where
   pub same_length : length new ≡ length old
   pub bytes : Bytes new
-  pub untouched : (k : ℕ) → All (Outside L S k) us → slice_index new k ≡ slice_index old k
-  pub holds : (before after : List Use) (u : Use) → us ≡ before ++ u ∷ after → All (Apart L S u) before → All (Apart L S u) after → Zero L S old u → Holds L S where_is new u
+  pub untouched : (k : ℕ) → AllByRecursion (Outside L S k) us → slice_index new k ≡ slice_index old k
+  pub holds : (before after : List Use) (u : Use) → us ≡ before ++ u ∷ after → AllByRecursion (Apart L S u) before → AllByRecursion (Apart L S u) after → Zero L S old u → Holds L S where_is new u
 
 -- Settling answers r and leaves `new`: the first refusal and the code as it was, or nothing and every field filled.
 pub record Settles (L S : Family) (labels : List Slot) (symbols : List ℤ) (us : List Use) (old : List ℕ) (r : Answer) (new : List ℕ) : Type 0 where
