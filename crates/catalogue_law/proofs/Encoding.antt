@@ -304,10 +304,10 @@ nibbles_small : (bs : List ℕ) → AllByRecursion (λ b. b < 256) bs → AllByR
 nibbles_small [] h = tt
 nibbles_small (b ∷ bs) h = (let s : b < 256 = h.0 in omega arith, (omega arith, nibbles_small bs h.1))
 
-getD_small : (xs : List ℕ) (i : ℕ) → AllByRecursion (λ x. x < 16) xs → get_or xs i 0 < 16
-getD_small [] i h = omega arith
-getD_small (x ∷ xs) zero h = h.0
-getD_small (x ∷ xs) (suc i) h = getD_small xs i h.1
+get_or_small : (xs : List ℕ) (i : ℕ) → AllByRecursion (λ x. x < 16) xs → get_or xs i 0 < 16
+get_or_small [] i h = omega arith
+get_or_small (x ∷ xs) zero h = h.0
+get_or_small (x ∷ xs) (suc i) h = get_or_small xs i h.1
 
 head_whole : (bs : List ℕ) → 16 * get_or (nibbles bs) 0 0 + get_or (nibbles bs) 1 0 ≡ head bs
 head_whole [] = refl
@@ -323,43 +323,43 @@ read_four : (a b c d : ℕ) → b < 16 → c < 16 → d < 16 → (a * 16 ^ 3 + (
 read_four a b c d h k l = omega arith
 
 first_spelled : (f : Form) (xs : List ℕ) → AllByRecursion (λ x. x < 16) xs → spelled (opcode_digits f) xs / 16 ^ (length (opcode_digits f) - 2) ≡ 16 * get_or xs 0 0 + get_or xs 1 0
-first_spelled E xs h = read_four (get_or xs 0 0) (get_or xs 1 0) (get_or xs 2 0) (get_or xs 3 0) (getD_small xs 1 h) (getD_small xs 2 h) (getD_small xs 3 h)
-first_spelled RiA xs h = read_three (get_or xs 0 0) (get_or xs 1 0) (get_or xs 3 0) (getD_small xs 1 h) (getD_small xs 3 h)
-first_spelled RiB xs h = read_three (get_or xs 0 0) (get_or xs 1 0) (get_or xs 3 0) (getD_small xs 1 h) (getD_small xs 3 h)
-first_spelled RiC xs h = read_three (get_or xs 0 0) (get_or xs 1 0) (get_or xs 3 0) (getD_small xs 1 h) (getD_small xs 3 h)
-first_spelled RieA xs h = read_four (get_or xs 0 0) (get_or xs 1 0) (get_or xs 10 0) (get_or xs 11 0) (getD_small xs 1 h) (getD_small xs 10 h) (getD_small xs 11 h)
-first_spelled RieD xs h = read_four (get_or xs 0 0) (get_or xs 1 0) (get_or xs 10 0) (get_or xs 11 0) (getD_small xs 1 h) (getD_small xs 10 h) (getD_small xs 11 h)
-first_spelled RieF xs h = read_four (get_or xs 0 0) (get_or xs 1 0) (get_or xs 10 0) (get_or xs 11 0) (getD_small xs 1 h) (getD_small xs 10 h) (getD_small xs 11 h)
-first_spelled RieG xs h = read_four (get_or xs 0 0) (get_or xs 1 0) (get_or xs 10 0) (get_or xs 11 0) (getD_small xs 1 h) (getD_small xs 10 h) (getD_small xs 11 h)
-first_spelled RilA xs h = read_three (get_or xs 0 0) (get_or xs 1 0) (get_or xs 3 0) (getD_small xs 1 h) (getD_small xs 3 h)
-first_spelled RilB xs h = read_three (get_or xs 0 0) (get_or xs 1 0) (get_or xs 3 0) (getD_small xs 1 h) (getD_small xs 3 h)
-first_spelled RilC xs h = read_three (get_or xs 0 0) (get_or xs 1 0) (get_or xs 3 0) (getD_small xs 1 h) (getD_small xs 3 h)
+first_spelled E xs h = read_four (get_or xs 0 0) (get_or xs 1 0) (get_or xs 2 0) (get_or xs 3 0) (get_or_small xs 1 h) (get_or_small xs 2 h) (get_or_small xs 3 h)
+first_spelled RiA xs h = read_three (get_or xs 0 0) (get_or xs 1 0) (get_or xs 3 0) (get_or_small xs 1 h) (get_or_small xs 3 h)
+first_spelled RiB xs h = read_three (get_or xs 0 0) (get_or xs 1 0) (get_or xs 3 0) (get_or_small xs 1 h) (get_or_small xs 3 h)
+first_spelled RiC xs h = read_three (get_or xs 0 0) (get_or xs 1 0) (get_or xs 3 0) (get_or_small xs 1 h) (get_or_small xs 3 h)
+first_spelled RieA xs h = read_four (get_or xs 0 0) (get_or xs 1 0) (get_or xs 10 0) (get_or xs 11 0) (get_or_small xs 1 h) (get_or_small xs 10 h) (get_or_small xs 11 h)
+first_spelled RieD xs h = read_four (get_or xs 0 0) (get_or xs 1 0) (get_or xs 10 0) (get_or xs 11 0) (get_or_small xs 1 h) (get_or_small xs 10 h) (get_or_small xs 11 h)
+first_spelled RieF xs h = read_four (get_or xs 0 0) (get_or xs 1 0) (get_or xs 10 0) (get_or xs 11 0) (get_or_small xs 1 h) (get_or_small xs 10 h) (get_or_small xs 11 h)
+first_spelled RieG xs h = read_four (get_or xs 0 0) (get_or xs 1 0) (get_or xs 10 0) (get_or xs 11 0) (get_or_small xs 1 h) (get_or_small xs 10 h) (get_or_small xs 11 h)
+first_spelled RilA xs h = read_three (get_or xs 0 0) (get_or xs 1 0) (get_or xs 3 0) (get_or_small xs 1 h) (get_or_small xs 3 h)
+first_spelled RilB xs h = read_three (get_or xs 0 0) (get_or xs 1 0) (get_or xs 3 0) (get_or_small xs 1 h) (get_or_small xs 3 h)
+first_spelled RilC xs h = read_three (get_or xs 0 0) (get_or xs 1 0) (get_or xs 3 0) (get_or_small xs 1 h) (get_or_small xs 3 h)
 first_spelled Rr xs h = read_two (get_or xs 0 0) (get_or xs 1 0)
-first_spelled Rrd xs h = read_four (get_or xs 0 0) (get_or xs 1 0) (get_or xs 2 0) (get_or xs 3 0) (getD_small xs 1 h) (getD_small xs 2 h) (getD_small xs 3 h)
-first_spelled Rre xs h = read_four (get_or xs 0 0) (get_or xs 1 0) (get_or xs 2 0) (get_or xs 3 0) (getD_small xs 1 h) (getD_small xs 2 h) (getD_small xs 3 h)
-first_spelled RrfAb xs h = read_four (get_or xs 0 0) (get_or xs 1 0) (get_or xs 2 0) (get_or xs 3 0) (getD_small xs 1 h) (getD_small xs 2 h) (getD_small xs 3 h)
-first_spelled RrfCde xs h = read_four (get_or xs 0 0) (get_or xs 1 0) (get_or xs 2 0) (get_or xs 3 0) (getD_small xs 1 h) (getD_small xs 2 h) (getD_small xs 3 h)
+first_spelled Rrd xs h = read_four (get_or xs 0 0) (get_or xs 1 0) (get_or xs 2 0) (get_or xs 3 0) (get_or_small xs 1 h) (get_or_small xs 2 h) (get_or_small xs 3 h)
+first_spelled Rre xs h = read_four (get_or xs 0 0) (get_or xs 1 0) (get_or xs 2 0) (get_or xs 3 0) (get_or_small xs 1 h) (get_or_small xs 2 h) (get_or_small xs 3 h)
+first_spelled RrfAb xs h = read_four (get_or xs 0 0) (get_or xs 1 0) (get_or xs 2 0) (get_or xs 3 0) (get_or_small xs 1 h) (get_or_small xs 2 h) (get_or_small xs 3 h)
+first_spelled RrfCde xs h = read_four (get_or xs 0 0) (get_or xs 1 0) (get_or xs 2 0) (get_or xs 3 0) (get_or_small xs 1 h) (get_or_small xs 2 h) (get_or_small xs 3 h)
 first_spelled Rs xs h = read_two (get_or xs 0 0) (get_or xs 1 0)
-first_spelled Rsy xs h = read_four (get_or xs 0 0) (get_or xs 1 0) (get_or xs 10 0) (get_or xs 11 0) (getD_small xs 1 h) (getD_small xs 10 h) (getD_small xs 11 h)
+first_spelled Rsy xs h = read_four (get_or xs 0 0) (get_or xs 1 0) (get_or xs 10 0) (get_or xs 11 0) (get_or_small xs 1 h) (get_or_small xs 10 h) (get_or_small xs 11 h)
 first_spelled Rx xs h = read_two (get_or xs 0 0) (get_or xs 1 0)
-first_spelled Rxy xs h = read_four (get_or xs 0 0) (get_or xs 1 0) (get_or xs 10 0) (get_or xs 11 0) (getD_small xs 1 h) (getD_small xs 10 h) (getD_small xs 11 h)
+first_spelled Rxy xs h = read_four (get_or xs 0 0) (get_or xs 1 0) (get_or xs 10 0) (get_or xs 11 0) (get_or_small xs 1 h) (get_or_small xs 10 h) (get_or_small xs 11 h)
 first_spelled Si xs h = read_two (get_or xs 0 0) (get_or xs 1 0)
-first_spelled Sil xs h = read_four (get_or xs 0 0) (get_or xs 1 0) (get_or xs 2 0) (get_or xs 3 0) (getD_small xs 1 h) (getD_small xs 2 h) (getD_small xs 3 h)
-first_spelled Siy xs h = read_four (get_or xs 0 0) (get_or xs 1 0) (get_or xs 10 0) (get_or xs 11 0) (getD_small xs 1 h) (getD_small xs 10 h) (getD_small xs 11 h)
-first_spelled VriA xs h = read_four (get_or xs 0 0) (get_or xs 1 0) (get_or xs 10 0) (get_or xs 11 0) (getD_small xs 1 h) (getD_small xs 10 h) (getD_small xs 11 h)
-first_spelled VriB xs h = read_four (get_or xs 0 0) (get_or xs 1 0) (get_or xs 10 0) (get_or xs 11 0) (getD_small xs 1 h) (getD_small xs 10 h) (getD_small xs 11 h)
-first_spelled VriC xs h = read_four (get_or xs 0 0) (get_or xs 1 0) (get_or xs 10 0) (get_or xs 11 0) (getD_small xs 1 h) (getD_small xs 10 h) (getD_small xs 11 h)
-first_spelled VriK xs h = read_four (get_or xs 0 0) (get_or xs 1 0) (get_or xs 10 0) (get_or xs 11 0) (getD_small xs 1 h) (getD_small xs 10 h) (getD_small xs 11 h)
-first_spelled VrrA xs h = read_four (get_or xs 0 0) (get_or xs 1 0) (get_or xs 10 0) (get_or xs 11 0) (getD_small xs 1 h) (getD_small xs 10 h) (getD_small xs 11 h)
-first_spelled VrrB xs h = read_four (get_or xs 0 0) (get_or xs 1 0) (get_or xs 10 0) (get_or xs 11 0) (getD_small xs 1 h) (getD_small xs 10 h) (getD_small xs 11 h)
-first_spelled VrrC xs h = read_four (get_or xs 0 0) (get_or xs 1 0) (get_or xs 10 0) (get_or xs 11 0) (getD_small xs 1 h) (getD_small xs 10 h) (getD_small xs 11 h)
-first_spelled VrrD xs h = read_four (get_or xs 0 0) (get_or xs 1 0) (get_or xs 10 0) (get_or xs 11 0) (getD_small xs 1 h) (getD_small xs 10 h) (getD_small xs 11 h)
-first_spelled VrrE xs h = read_four (get_or xs 0 0) (get_or xs 1 0) (get_or xs 10 0) (get_or xs 11 0) (getD_small xs 1 h) (getD_small xs 10 h) (getD_small xs 11 h)
-first_spelled VrrF xs h = read_four (get_or xs 0 0) (get_or xs 1 0) (get_or xs 10 0) (get_or xs 11 0) (getD_small xs 1 h) (getD_small xs 10 h) (getD_small xs 11 h)
-first_spelled VrsA xs h = read_four (get_or xs 0 0) (get_or xs 1 0) (get_or xs 10 0) (get_or xs 11 0) (getD_small xs 1 h) (getD_small xs 10 h) (getD_small xs 11 h)
-first_spelled VrsB xs h = read_four (get_or xs 0 0) (get_or xs 1 0) (get_or xs 10 0) (get_or xs 11 0) (getD_small xs 1 h) (getD_small xs 10 h) (getD_small xs 11 h)
-first_spelled VrsC xs h = read_four (get_or xs 0 0) (get_or xs 1 0) (get_or xs 10 0) (get_or xs 11 0) (getD_small xs 1 h) (getD_small xs 10 h) (getD_small xs 11 h)
-first_spelled Vrx xs h = read_four (get_or xs 0 0) (get_or xs 1 0) (get_or xs 10 0) (get_or xs 11 0) (getD_small xs 1 h) (getD_small xs 10 h) (getD_small xs 11 h)
+first_spelled Sil xs h = read_four (get_or xs 0 0) (get_or xs 1 0) (get_or xs 2 0) (get_or xs 3 0) (get_or_small xs 1 h) (get_or_small xs 2 h) (get_or_small xs 3 h)
+first_spelled Siy xs h = read_four (get_or xs 0 0) (get_or xs 1 0) (get_or xs 10 0) (get_or xs 11 0) (get_or_small xs 1 h) (get_or_small xs 10 h) (get_or_small xs 11 h)
+first_spelled VriA xs h = read_four (get_or xs 0 0) (get_or xs 1 0) (get_or xs 10 0) (get_or xs 11 0) (get_or_small xs 1 h) (get_or_small xs 10 h) (get_or_small xs 11 h)
+first_spelled VriB xs h = read_four (get_or xs 0 0) (get_or xs 1 0) (get_or xs 10 0) (get_or xs 11 0) (get_or_small xs 1 h) (get_or_small xs 10 h) (get_or_small xs 11 h)
+first_spelled VriC xs h = read_four (get_or xs 0 0) (get_or xs 1 0) (get_or xs 10 0) (get_or xs 11 0) (get_or_small xs 1 h) (get_or_small xs 10 h) (get_or_small xs 11 h)
+first_spelled VriK xs h = read_four (get_or xs 0 0) (get_or xs 1 0) (get_or xs 10 0) (get_or xs 11 0) (get_or_small xs 1 h) (get_or_small xs 10 h) (get_or_small xs 11 h)
+first_spelled VrrA xs h = read_four (get_or xs 0 0) (get_or xs 1 0) (get_or xs 10 0) (get_or xs 11 0) (get_or_small xs 1 h) (get_or_small xs 10 h) (get_or_small xs 11 h)
+first_spelled VrrB xs h = read_four (get_or xs 0 0) (get_or xs 1 0) (get_or xs 10 0) (get_or xs 11 0) (get_or_small xs 1 h) (get_or_small xs 10 h) (get_or_small xs 11 h)
+first_spelled VrrC xs h = read_four (get_or xs 0 0) (get_or xs 1 0) (get_or xs 10 0) (get_or xs 11 0) (get_or_small xs 1 h) (get_or_small xs 10 h) (get_or_small xs 11 h)
+first_spelled VrrD xs h = read_four (get_or xs 0 0) (get_or xs 1 0) (get_or xs 10 0) (get_or xs 11 0) (get_or_small xs 1 h) (get_or_small xs 10 h) (get_or_small xs 11 h)
+first_spelled VrrE xs h = read_four (get_or xs 0 0) (get_or xs 1 0) (get_or xs 10 0) (get_or xs 11 0) (get_or_small xs 1 h) (get_or_small xs 10 h) (get_or_small xs 11 h)
+first_spelled VrrF xs h = read_four (get_or xs 0 0) (get_or xs 1 0) (get_or xs 10 0) (get_or xs 11 0) (get_or_small xs 1 h) (get_or_small xs 10 h) (get_or_small xs 11 h)
+first_spelled VrsA xs h = read_four (get_or xs 0 0) (get_or xs 1 0) (get_or xs 10 0) (get_or xs 11 0) (get_or_small xs 1 h) (get_or_small xs 10 h) (get_or_small xs 11 h)
+first_spelled VrsB xs h = read_four (get_or xs 0 0) (get_or xs 1 0) (get_or xs 10 0) (get_or xs 11 0) (get_or_small xs 1 h) (get_or_small xs 10 h) (get_or_small xs 11 h)
+first_spelled VrsC xs h = read_four (get_or xs 0 0) (get_or xs 1 0) (get_or xs 10 0) (get_or xs 11 0) (get_or_small xs 1 h) (get_or_small xs 10 h) (get_or_small xs 11 h)
+first_spelled Vrx xs h = read_four (get_or xs 0 0) (get_or xs 1 0) (get_or xs 10 0) (get_or xs 11 0) (get_or_small xs 1 h) (get_or_small xs 10 h) (get_or_small xs 11 h)
 
 pub first_of_opcode : (f : Form) (bs : List ℕ) → length bs ≡ size f → AllByRecursion (λ b. b < 256) bs → first_byte f (opcode_of f bs) ≡ head bs
 first_of_opcode f bs h s =

@@ -1,5 +1,5 @@
 ghost use Rattle.std.specs.Prelude.{◌≡◌, ℕ, ◌+◌, ◌*◌, ◌^◌, ◌<◌, ◌≤◌, true, ◌&&◌, ◌||◌, map, length, pos, neg_ℤ, ◌≤ℤ◌, if◌then◌else◌, Some, None, ◌==◌, nat_eq, slice_index, slice_index_or};
-ghost use Rattle.form.specs.Form.{row as row_of, unused, size as type_size, kinds as kinds_of};
+ghost use Rattle.form.specs.Form.{row as row_of, unused, size as size_of, kinds as kinds_of};
 ghost use Rattle.form.specs.Encode.{nibbles, operand_part, gather, bit_part, bit_of, field_of as field_at, width, operands_of as operands_at, is_vec, rxb_clean, digit_clean, clean, all_clean, opcode_of as opcode_at};
 ghost use Rattle.refusal.specs.Numbers.{from_bits};
 ghost use Rattle.codec.specs.Digits.{digit_of, low, operand_at, twos_by};
@@ -183,7 +183,7 @@ fn byte_at(bytes: &[u8], i: usize) -> u16
 
 /// The opcode's digits.
 fn opcode_of(form: Form, bytes: &[u8]) -> u16
-    requires { length bytes.now ≡ type_size form }
+    requires { length bytes.now ≡ size_of form }
     ensures { result ≡ opcode_at form bytes.now }
 {
     let first = byte_at(bytes, 0);
@@ -197,7 +197,7 @@ fn opcode_of(form: Form, bytes: &[u8]) -> u16
 
 /// Operand i, 0 where the form has none.
 fn operand(form: Form, bytes: &[u8], i: usize) -> i64
-    requires { length bytes.now ≡ type_size form }
+    requires { length bytes.now ≡ size_of form }
     ensures { result ≡ operand_at (kinds_of form) (row_of form) (nibbles bytes.now) i }
 {
     let kinds = form.kinds();
@@ -210,7 +210,7 @@ fn operand(form: Form, bytes: &[u8], i: usize) -> i64
 
 /// The six operands, the unused ones 0.
 fn operands_of(form: Form, bytes: &[u8]) -> [i64; 6]
-    requires { length bytes.now ≡ type_size form }
+    requires { length bytes.now ≡ size_of form }
     ensures { result ≡ operands_at form bytes.now }
 {
     let a = operand(form, bytes, 0);
@@ -268,7 +268,7 @@ fn row_is_clean(row: &[Digit], bytes: &[u8]) -> bool
 
 /// Whether no unused digit is set.
 fn is_clean(form: Form, bytes: &[u8]) -> bool
-    requires { length bytes.now ≡ type_size form }
+    requires { length bytes.now ≡ size_of form }
     ensures { result ≡ clean form bytes.now }
 {
     row_is_clean(row(form), bytes)
@@ -276,7 +276,7 @@ fn is_clean(form: Form, bytes: &[u8]) -> bool
 
 /// The opcode in these bytes, if they are as many as the form has.
 pub fn opcode_in(form: Form, bytes: &[u8]) -> Option<u16>
-    ensures { result ≡ (if nat_eq (length bytes.now) (type_size form) then Some (opcode_at form bytes.now) else None) }
+    ensures { result ≡ (if nat_eq (length bytes.now) (size_of form) then Some (opcode_at form bytes.now) else None) }
 {
     if bytes.len() == form.size() {
         Some(opcode_of(form, bytes))
@@ -288,7 +288,7 @@ pub fn opcode_in(form: Form, bytes: &[u8]) -> Option<u16>
 /// The six operands in these bytes, the unused ones 0; none where the bytes are not as many as the form has, or an unused digit or an
 /// unused bit of RXB is set.
 pub fn decode(form: Form, bytes: &[u8]) -> Option<[i64; 6]>
-    ensures { result ≡ (if nat_eq (length bytes.now) (type_size form) && clean form bytes.now then Some (operands_at form bytes.now) else None) }
+    ensures { result ≡ (if nat_eq (length bytes.now) (size_of form) && clean form bytes.now then Some (operands_at form bytes.now) else None) }
 {
     if bytes.len() != form.size() {
         return None;

@@ -1,5 +1,5 @@
 ghost use Rattle.std.specs.Prelude.{◌≡◌, Some};
-ghost use Rattle.form.specs.Form.{kinds as kinds_of, size as type_size, opcode_digits as opcode_digits_of, form_number};
+ghost use Rattle.form.specs.Form.{kinds as kinds_of, size as size_of, opcode_digits as opcode_digits_of, form_number};
 ghost use Rattle.form.specs.Table.{places, form_text};
 
 use crate::{Form, OperandKind};
@@ -105,7 +105,7 @@ impl Form {
 
     /// How many bytes an instruction of this form has.
     pub fn size(self) -> usize
-        ensures { result ≡ type_size self }
+        ensures { result ≡ size_of self }
     {
         SIZES[self.number() as usize]
     }

@@ -469,10 +469,10 @@ vec_whole : (x : ℕ) → x < 32 → x / 1 % 16 * 1 + 0 + 16 * (1 * above x) ≡
 vec_whole x h = grind (arith, nat_tests)
 
 -- a row's digit past its end is nil, and its value 0
-getD_value : (R : List Digit) (o : ℕ) (fs : List ℕ) (ds : List Digit) (n : ℕ) → get_or (map (value R o fs) ds) n 0 ≡ value R o fs (get_or ds n unused)
-getD_value R o fs [] n = refl
-getD_value R o fs (d ∷ ds) zero = refl
-getD_value R o fs (d ∷ ds) (suc n) = getD_value R o fs ds n
+get_or_value : (R : List Digit) (o : ℕ) (fs : List ℕ) (ds : List Digit) (n : ℕ) → get_or (map (value R o fs) ds) n 0 ≡ value R o fs (get_or ds n unused)
+get_or_value R o fs [] n = refl
+get_or_value R o fs (d ∷ ds) zero = refl
+get_or_value R o fs (d ∷ ds) (suc n) = get_or_value R o fs ds n
 
 -- as written
 written_field : (ds : List Digit) (o : ℕ) (fs : List ℕ) (i : ℕ) (k : OperandKind) → Fits i ds k → get_or fs i 0 < 2 ^ bits (width k)
@@ -495,7 +495,7 @@ written_field ds o fs i k t h =
           let w : sumw (weights (of_operand i) ds) (map (nibble (get_or fs i 0)) (weights (of_operand i) ds)) ≡ get_or fs i 0 / 1 % 16 * 1 + 0 =
           ap (λ (ws : List ℕ). sumw ws (map (nibble (get_or fs i 0)) ws)) u.orderly in
           let g : get_or (map (value ds o fs) ds) 9 0 ≡ rxb_digit ds fs =
-          getD_value ds o fs ds 9 ∙ ap (λ (d : Digit). value ds o fs d) (rxb_is (get_or ds 9 unused) u.marked) in
+          get_or_value ds o fs ds 9 ∙ ap (λ (d : Digit). value ds o fs d) (rxb_is (get_or ds 9 unused) u.marked) in
           let b : bit_of i ds (get_or (map (value ds o fs) ds) 9 0) ≡ 1 * above (get_or fs i 0) =
           ap (λ (y : ℕ). bit_of i ds y) g ∙ bits_highs fs i ds ∙ ap (λ (c : ℕ). c * above (get_or fs i 0)) u.counted in
           omega (arith, gathered, w, b, vec_whole (get_or fs i 0) l)
@@ -529,10 +529,10 @@ read_field ds xs i k t l h = elim (by_kind k) [ inl p ↦ plainly p.0 p.1 | inr 
 
 -- RXB, as read.
 
-getD_small : (xs : List ℕ) (n : ℕ) → AllByRecursion (λ x. x < 16) xs → get_or xs n 0 < 16
-getD_small [] n h = omega arith
-getD_small (x ∷ xs) zero h = h.0
-getD_small (x ∷ xs) (suc n) h = getD_small xs n h.1
+get_or_small : (xs : List ℕ) (n : ℕ) → AllByRecursion (λ x. x < 16) xs → get_or xs n 0 < 16
+get_or_small [] n h = omega arith
+get_or_small (x ∷ xs) zero h = h.0
+get_or_small (x ∷ xs) (suc n) h = get_or_small xs n h.1
 
 high_is : (fs : List ℕ) (d : Digit) (n : ℕ) → ((i : ℕ) → d ≡ vec i → above (get_or fs i 0) ≡ n) → (is_vec d || eqb n 0) ≡ true → high fs d ≡ n
 high_is fs (op k) n h c = sym (eqb_is n 0 c)
@@ -773,7 +773,7 @@ module _ (ds : List Digit) (ks : List OperandKind) (t : Sound ds ks) (xs : List 
 
   digits_are : all_clean ds ds xs ≡ true → map (value ds (code_in ds xs) (fields_in ds ks xs)) ds ≡ xs
   digits_are c =
-      digits_back ds (code_in ds xs) (fields_in ds ks xs) xs ks (rxb_read ds (fields_in ds ks xs) xs marked_is (getD_small xs 9 s)) 0 ds xs t.settled l c
+      digits_back ds (code_in ds xs) (fields_in ds ks xs) xs ks (rxb_read ds (fields_in ds ks xs) xs marked_is (get_or_small xs 9 s)) 0 ds xs t.settled l c
       (λ n. ap (λ (m : ℕ). get_or xs m 0) (sym (zero-add n)))
       code_is.0
       (λ i m. ap (λ (n : ℕ). map (nibble n) (weights (of_operand i) ds)) (field_is i m) ∙ (read_field ds xs i (get_or ks i M) (fits_at ds ks t i m) l s).0)

@@ -1,5 +1,5 @@
 ghost use Rattle.std.specs.Prelude.{◌≡◌, ◌≤◌, length, drop, IfSome};
-ghost use Rattle.form.specs.Form.{size as type_size};
+ghost use Rattle.form.specs.Form.{size as size_of};
 ghost use Rattle.catalogue_law.specs.Catalogue.{matches, find, read_rest};
 ghost use Rattle.catalogue.specs.Listed.{entries_in, taken};
 
@@ -12,7 +12,7 @@ use refusal::{Reason, Refusal};
 /// The first entry for these bytes.
 fn find_entry(entries: &[Entry], bytes: &[u8]) -> Option<Entry>
     ensures is { result ≡ find (matches bytes.now) entries.now }
-    ensures long { IfSome result (λ e. length bytes.now ≡ type_size e.form) }
+    ensures long { IfSome result (λ e. length bytes.now ≡ size_of e.form) }
 {
     for e in entries {
         if is_match(*e, bytes) {

@@ -6,7 +6,7 @@ use Rattle.form.specs.Form as form
 use Rattle.refusal.specs.Numbers.{from_bits}
 use Rattle.form.specs.Encode.{nibbles, width, field_of}
 use Rattle.codec.specs.Digits.{operand_at}
-use Rattle.codec.proofs.Sums.{row_lengths, get_d_any}
+use Rattle.codec.proofs.Sums.{row_lengths, get_or_any}
 use Rattle.codec.proofs.decode.operand.Goals as goal
 
 pub field_of-requires : goal.field_of-requires
@@ -17,7 +17,7 @@ field_of-requires c =
 joined : (ks hs : List OperandKind) (ds : List form.Digit) (xs : List ℕ) (i n : ℕ) (z : ℤ) → hs ≡ ks → i < length hs → n ≡ field_of i ds xs → z ≡ from_bits (width (get_or hs i G)) n → z ≡ operand_at ks ds xs i
 joined ks hs ds xs i n z e lt f h =
     let l : i < length ks = rw (← e) lt in
-    let k : get_or hs i G ≡ get_or ks i M = get_d_any hs i G M lt ∙ ap (λ (l : List OperandKind). get_or l i M) e in
+    let k : get_or hs i G ≡ get_or ks i M = get_or_any hs i G M lt ∙ ap (λ (l : List OperandKind). get_or l i M) e in
     h ∙ ap (λ (g : OperandKind). from_bits (width g) n) k ∙ ap (from_bits (width (get_or ks i M))) f
     ∙ sym (ap (λ (b : Bool). cond b (from_bits (width (get_or ks i M)) (field_of i ds xs)) (pos 0)) (lt-ltb i (length ks) l))
 
