@@ -39,8 +39,8 @@ named_mode where_is (real (symbol n offset fl)) h c load g = (load +ℤ h.0, ap 
 named_mode where_is (virtual v) h c load g = (content g v.base.number +ℤ v.off +ℤ adjustment v, refl)
 
 module _ (C : Convention) (lc : lawful_convention C ≡ true) where
-  abbrev first-listed : Option Helper × Address → List Helper × Address
-  first-listed p = (list_of (only p.0), p.1)
+  abbrev first_listed : Option Helper × Address → List Helper × Address
+  first_listed p = (list_of (only p.0), p.1)
 
   abbrev all_listed : Helpers × Address → List Helper × Address
   all_listed p = (list_of p.0, p.1)
@@ -194,11 +194,11 @@ module _ (C : Convention) (lc : lawful_convention C ≡ true) where
     abbrev RunsPlan : List Helper × Address → Type 0
     RunsPlan p = AllByRecursion Runs p.0 × AimFound where_is (target_of (real p.1))
 
-    resolved_runs : (md : Mode) → AimFound where_is (target_of md) → too_far md ≡ false → RunsPlan (first-listed (resolved C md))
+    resolved_runs : (md : Mode) → AimFound where_is (target_of md) → too_far md ≡ false → RunsPlan (first_listed (resolved C md))
     resolved_runs (real a) f h = (tt, f)
     resolved_runs (virtual v) f h = go (within (plain 12) (total v)) (within (twos 20) (total v))
       where
-        go : (a b : Bool) → RunsPlan (first-listed (cond a (None, bxd12 v.base (int_reg zero_reg) (total v) v.flags) (cond b (None, bxd20 v.base (int_reg zero_reg) (total v) v.flags) (Some (lgfi (int_reg C.temporary) (total v)), bxd12 v.base (int_reg C.temporary) (pos 0) v.flags))))
+        go : (a b : Bool) → RunsPlan (first_listed (cond a (None, bxd12 v.base (int_reg zero_reg) (total v) v.flags) (cond b (None, bxd20 v.base (int_reg zero_reg) (total v) v.flags) (Some (lgfi (int_reg C.temporary) (total v)), bxd12 v.base (int_reg C.temporary) (pos 0) v.flags))))
         go true b = (tt, tt)
         go false true = (tt, tt)
         go false false = ((not-false (within (twos 32) (total v)) h, tt), tt)

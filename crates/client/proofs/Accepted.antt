@@ -52,13 +52,13 @@ run_to_bind : {s s1 s2 s3 t u : State} → Reserves s (Ok 0) s1 → PutsToLabel 
     → Run standard label_family relocation_family t (put Rr 0x07 return_operands (Ok tt) ∷ []) u → Run standard label_family relocation_family s routine_events u
 run_to_bind a b c d rest = then a (then b (then c (then d rest)))
 
-pub up_to_bind : {s s1 s2 s3 t : State} {l p : ℕ} {q : Result ℕ Refusal} {branch load_answer bind-answer : Answer} → s ≡ at_start → q ≡ Ok p → l ≡ p → Reserves s q s1
-    → PutsToLabel s1 RiC 0xA74 (pos 8) l branch s2 → Accesses standard s2 load false word no_frame load_answer s3 → Binds s3 p bind-answer t → Bound s branch load_answer bind-answer t
-up_to_bind {s} {s1} {s2} {s3} {t} {l} {p} {q} {branch} {load_answer} {bind-answer} e k number_is a b c d =
+pub up_to_bind : {s s1 s2 s3 t : State} {l p : ℕ} {q : Result ℕ Refusal} {branch load_answer bind_answer : Answer} → s ≡ at_start → q ≡ Ok p → l ≡ p → Reserves s q s1
+    → PutsToLabel s1 RiC 0xA74 (pos 8) l branch s2 → Accesses standard s2 load false word no_frame load_answer s3 → Binds s3 p bind_answer t → Bound s branch load_answer bind_answer t
+up_to_bind {s} {s1} {s2} {s3} {t} {l} {p} {q} {branch} {load_answer} {bind_answer} e k number_is a b c d =
     let a' = reserves e a in
     let zero : p ≡ 0 = number (sym k ∙ a'.answers) in
     let b' = subst (λ (n : ℕ). PutsToLabel s1 RiC 0xA74 (pos 8) n branch s2) (number_is ∙ zero) b in
-    let d' = subst (λ (n : ℕ). Binds s3 n bind-answer t) zero d in
+    let d' = subst (λ (n : ℕ). Binds s3 n bind_answer t) zero d in
     let tb = branches a'.leaves b' in
     let tc = loads tb.leaves c in
     let td = binds tc.leaves d' in
@@ -81,7 +81,7 @@ pub record Emitted (s : State) (r : Answer) (t : State) : Type 0 where
   pub leaves : t ≡ routine_state
   pub run : Run standard label_family relocation_family s routine_events t
 
-pub emitted : {s m t : State} {branch load_answer bind-answer r : Answer} → Bound s branch load_answer bind-answer m → Puts m Rr 0x07 return_operands r t → Emitted s r t
+pub emitted : {s m t : State} {branch load_answer bind_answer r : Answer} → Bound s branch load_answer bind_answer m → Puts m Rr 0x07 return_operands r t → Emitted s r t
 emitted {s} {m} {t} {r = r} b h =
     let k = puts b.leaves h in
     record {

@@ -21,7 +21,7 @@ way f = get_or ways (form_number f) Two
 pub way_is : (f : Form) → places (way f) ≡ opcode_digits f
 way_is = digit_places ways Two refl
 
--- sums over a row, with the digits by their opcode-digits
+-- sums over a row, with the digits by their opcode_digits
 abbrev pub gather_at : (Digit → ℕ → ℕ) → List Digit → List ℕ → ℕ → ℕ
 gather_at w [] xs i = 0
 gather_at w (d ∷ ds) xs i = w d (get_or xs i 0) + gather_at w ds xs (suc i)
@@ -35,7 +35,7 @@ gather_is w [] xs e = refl
 gather_is w (d ∷ ds) [] e = absurd (omega arith)
 gather_is w (d ∷ ds) (x ∷ xs) e = ap (λ (n : ℕ). w d x + n) (gather_is w ds xs (omega arith) ∙ sym (shift w ds x xs 0))
 
--- the opcode by its digits' opcode-digits
+-- the opcode by its digits' opcode_digits
 abbrev pub opc : OpcodeDigits → List ℕ → ℕ
 opc Two xs = get_or xs 0 0 * 16 + (get_or xs 1 0 * 1 + 0)
 opc Three xs = get_or xs 0 0 * 256 + (get_or xs 1 0 * 16 + (get_or xs 3 0 * 1 + 0))

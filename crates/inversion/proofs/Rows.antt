@@ -731,8 +731,8 @@ module _ (ds : List Digit) (ks : List OperandKind) (t : Sound ds ks) where
   fits_at : (i : ℕ) → i < length ks → Fits i ds (get_or ks i M)
   fits_at i h = fits_is i ds (get_or ks i M) (ap (λ (n : ℕ). fits n ds (get_or ks i M)) (sym (zero-add i)) ∙ nth ds 0 ks t.eached i h)
 
-VIs : (k : OperandKind) → is_V k ≡ true → k ≡ V
-VIs k e = elim (by_kind k) [ inl p ↦ absurd (false≢true (sym p.0 ∙ e)) | inr h ↦ h ]
+V_is : (k : OperandKind) → is_V k ≡ true → k ≡ V
+V_is k e = elim (by_kind k) [ inl p ↦ absurd (false≢true (sym p.0 ∙ e)) | inr h ↦ h ]
 
 -- the opcode and the fields that are read in the digits xs
 abbrev code_in : List Digit → List ℕ → ℕ
@@ -768,7 +768,7 @@ module _ (ds : List Digit) (ks : List OperandKind) (t : Sound ds ks) (xs : List 
   marked_is q i e =
       let b : belongs ks (vec i) ≡ true = subst (λ (d : Digit). belongs ks d ≡ true) e (placed_at ks 0 ds t.settled q) in
       let m = ltb_is i (length ks) (left (ltb i (length ks)) (is_V (get_or ks i M)) b) in
-      let v = VIs (get_or ks i M) (right (ltb i (length ks)) (is_V (get_or ks i M)) b) in
+      let v = V_is (get_or ks i M) (right (ltb i (length ks)) (is_V (get_or ks i M)) b) in
       vector_is i m (subst (λ (k : OperandKind). Fits i ds k) v (fits_at ds ks t i m))
 
   digits_are : all_clean ds ds xs ≡ true → map (value ds (code_in ds xs) (fields_in ds ks xs)) ds ≡ xs

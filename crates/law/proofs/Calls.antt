@@ -191,19 +191,19 @@ module _ (C : Convention) (lc : lawful_convention C ≡ true) where
   buffer_refused b o e h = let q = ap (λ (x : Bool). cond x (Some why.Buffer) o) e in none_some h q
 
   module _ (v : Inventory) (s : State) (other : List ℕ) (d : length other ≢ s.books.room) (m : Matches C v s) where
-    abbrev lent-to : State
-    lent-to = with_code s other
+    abbrev lent_to : State
+    lent_to = with_code s other
 
-    not_ours : other_buffer lent-to ≡ true
+    not_ours : other_buffer lent_to ≡ true
     not_ours = differs (length other) s.books.room (ltb largest_buffer (length other)) d
 
-    lent_ok : {X : Type 0} {y : X} {t : State} (o : Option Reason) (x : X) (after : State) → Call (cond (other_buffer lent-to) (Some why.Buffer) o) x lent-to after (Ok y) t → ⊥
-    lent_ok o x after c = buffer_refused (other_buffer lent-to) o not_ours (call_ok (cond (other_buffer lent-to) (Some why.Buffer) o) x lent-to after c).0
+    lent_ok : {X : Type 0} {y : X} {t : State} (o : Option Reason) (x : X) (after : State) → Call (cond (other_buffer lent_to) (Some why.Buffer) o) x lent_to after (Ok y) t → ⊥
+    lent_ok o x after c = buffer_refused (other_buffer lent_to) o not_ours (call_ok (cond (other_buffer lent_to) (Some why.Buffer) o) x lent_to after c).0
 
-    lent_err : {X : Type 0} {e : Refusal} {t : State} (o : Option Reason) (x : X) (after : State) → Call o x lent-to after (Err e) t → Matches C v (with_code t s.code)
-    lent_err o x after c = moved (ap (λ (q : State). with_code q s.code) (call_err o x lent-to after c)) m
+    lent_err : {X : Type 0} {e : Refusal} {t : State} (o : Option Reason) (x : X) (after : State) → Call o x lent_to after (Err e) t → Matches C v (with_code t s.code)
+    lent_err o x after c = moved (ap (λ (q : State). with_code q s.code) (call_err o x lent_to after c)) m
 
-    pub lent_keeps : (L S : Family) (t : State) (e : Event) → Step C L S lent-to e t → Matches C (fed C v e) (with_code t s.code)
+    pub lent_keeps : (L S : Family) (t : State) (e : Event) → Step C L S lent_to e t → Matches C (fed C v e) (with_code t s.code)
     lent_keeps L S t (admit f o r) c = keep_admit v s (with_code t s.code) f o r c.0 c.1 (ap (λ (q : State). with_code q s.code) c.2) m
     lent_keeps L S t (put f o zs (Ok _)) c = absurd (lent_ok _ _ _ c.1)
     lent_keeps L S t (put f o zs (Err _)) c = lent_err _ _ _ c.1

@@ -72,17 +72,17 @@ module _ (reads : ReadIsWritten) (inverts : WrittenIsRead) (F : Family) (lawful 
     abbrev b : List ℕ
     b = encode f o (six (z ∷ []))
 
-    abbrev filled-b : List ℕ
-    filled-b = encode f o (set (six (z ∷ [])) 1 d)
+    abbrev filled_b : List ℕ
+    filled_b = encode f o (set (six (z ∷ [])) 1 d)
 
     whole_b : s.info.lead + s.info.size ≡ length b
     whole_b = s.spans.whole ∙ sym (encode_length f o (six (z ∷ [])))
 
     pub patched_there : (pre rest : List ℕ) (at : ℕ) → length pre ≡ at
         → refuses F.fields k (length (window_of (F.fields.table k) at (pre ++ (b ++ rest)))) d ≡ None
-        → (write_at (window_start (F.fields.table k) at) (after_patch F k (window_of (F.fields.table k) at (pre ++ (b ++ rest))) d) (pre ++ (b ++ rest)) ≡ pre ++ (filled-b ++ rest))
+        → (write_at (window_start (F.fields.table k) at) (after_patch F k (window_of (F.fields.table k) at (pre ++ (b ++ rest))) d) (pre ++ (b ++ rest)) ≡ pre ++ (filled_b ++ rest))
         × (takes (kinds f) (set (six (z ∷ [])) 1 d) ≡ true)
-        × (pos 2 *ℤ signed (8 * (size f - 2)) (big_endian 0 (drop 2 filled-b)) ≡ d)
+        × (pos 2 *ℤ signed (8 * (size f - 2)) (big_endian 0 (drop 2 filled_b)) ≡ d)
     patched_there pre rest at here ok = (
       ap (λ (t : Option FieldInfo). write_at (window_start t at) (after_patch F k (window_of (F.fields.table k) at code) d) code) s.is
           ∙ ap (λ (x : Option FieldRefusal). write_at (at + s.info.lead) (unless x (F.patched k (window_of (F.fields.table k) at code) d) (window_of (F.fields.table k) at code)) code) ok
@@ -170,14 +170,14 @@ pub record Closed (L S : Family) (where_is : Target → Option ℤ) (es : List E
   pub holds : AllByRecursion (λ it. Held where_is it it.aim) (map (filled where_is) its)
   pub laid : Laid at (map as_placed (map (filled where_is) its))
 
-module _ (reads : ReadIsWritten) (inverts : WrittenIsRead) (L S : Family) (law-L : Lawful L) (law-S : Lawful S) (serves-L : serves L.fields ≡ true) (serves-S : serves S.fields ≡ true) (where_is : Target → Option ℤ) where
+module _ (reads : ReadIsWritten) (inverts : WrittenIsRead) (L S : Family) (law_L : Lawful L) (law_S : Lawful S) (serves_L : serves L.fields ≡ true) (serves_S : serves S.fields ≡ true) (where_is : Target → Option ℤ) where
   law_for : (t : Target) → Lawful (family_for L S t)
-  law_for (to_label l) = law-L
-  law_for (to_symbol n offset) = law-S
+  law_for (to_label l) = law_L
+  law_for (to_symbol n offset) = law_S
 
   serves_for : (t : Target) → serves (family_for L S t).fields ≡ true
-  serves_for (to_label l) = serves-L
-  serves_for (to_symbol n offset) = serves-S
+  serves_for (to_label l) = serves_L
+  serves_for (to_symbol n offset) = serves_S
 
   module _ (es : List Entry) (told : Entries es) where
     step_of : (pre rest : List ℕ) (at : ℕ) (t : Target) (f : Form) (o : ℕ) (z : ℤ) → Branch f → Catalogued es (record { form = f; opcode = o; operands = six (z ∷ []) }) → length pre ≡ at

@@ -148,8 +148,8 @@ module _ (C : Convention) (lc : lawful_convention C ≡ true) where
   fed_append v [] ys = refl
   fed_append v (x ∷ xs) ys = fed_append (fed C v x) xs ys
 
-  module _ (inverts : WrittenIsRead) (reads : ReadIsWritten) (reaching : ReachesWritten) (L S : Family) (law-L : Lawful L) (law-S : Lawful S) where
-    module _ (serves-L : serves L.fields ≡ true) (serves-S : serves S.fields ≡ true) (v : Inventory) (s : State) (m : Matches C v s) (symbols : List ℤ) (code : List ℕ) (c : Closes L S s symbols (Ok tt) code) where
+  module _ (inverts : WrittenIsRead) (reads : ReadIsWritten) (reaching : ReachesWritten) (L S : Family) (law_L : Lawful L) (law_S : Lawful S) where
+    module _ (serves_L : serves L.fields ≡ true) (serves_S : serves S.fields ≡ true) (v : Inventory) (s : State) (m : Matches C v s) (symbols : List ℤ) (code : List ℕ) (c : Closes L S s symbols (Ok tt) code) where
       abbrev where_is : Target → Option ℤ
       where_is = place_of v.labels symbols
 
@@ -178,7 +178,7 @@ module _ (C : Convention) (lc : lawful_convention C ≡ true) where
       told = sound_entries s.entries m.wrote.entries
 
       all_closed : Closed L S where_is s.entries [] post 0 its
-      all_closed = closed reads inverts L S law-L law-S serves-L serves-S where_is s.entries told [] post s.code 0 its refl m.wrote.laid m.wrote.sound (ap length code_split) checked
+      all_closed = closed reads inverts L S law_L law_S serves_L serves_S where_is s.entries told [] post s.code 0 its refl m.wrote.laid m.wrote.sound (ap length code_split) checked
 
       code_is : code ≡ bytes_of_all (instrs full) ++ post
       code_is =
@@ -216,7 +216,7 @@ module _ (C : Convention) (lc : lawful_convention C ≡ true) where
             unique = λ is h e. spelled_once inverts s.entries told is (instrs full) h listed (e ∙ finished) ∙ ap instrs (sym items);
             holds =
                 subst (λ (x : List Item). AllByRecursion (λ it. HoldsAim L S where_is (take s.books.len code) it it.aim) x) (sym items)
-                (holds_all reads inverts L S law-L law-S serves-L serves-S where_is [] (take s.books.len code) 0 full refl finished all_closed.laid all_closed.holds);
+                (holds_all reads inverts L S law_L law_S serves_L serves_S where_is [] (take s.books.len code) 0 full refl finished all_closed.laid all_closed.holds);
             reaches = reaches_all reaching where_is v.groups m.groups (all_found where_is its all_closed.holds);
           }
 
@@ -228,4 +228,4 @@ module _ (C : Convention) (lc : lawful_convention C ≡ true) where
         (record { answers = c.answers; leaves = c.leaves }))
 
 pub law : WrittenIsRead → ReadIsWritten → ((C : Convention) (lc : lawful_convention C ≡ true) → ReachesWritten C lc) → Law
-law inverts reads reaching C lc L S law-L law-S s symbols code c = promises C lc inverts reads (reaching C lc) L S law-L law-S s symbols code c
+law inverts reads reaching C lc L S law_L law_S s symbols code c = promises C lc inverts reads (reaching C lc) L S law_L law_S s symbols code c

@@ -89,25 +89,25 @@ module _ (C : Convention) where
   real_aim (constant c) = omega arith
   real_aim (symbol n offset fl) = omega arith
 
-  abbrev both-aim : Option Helper × Address → ℕ
-  both-aim p = helpers_aim (list_of (only p.0)) + aim_of p.1
+  abbrev both_aim : Option Helper × Address → ℕ
+  both_aim p = helpers_aim (list_of (only p.0)) + aim_of p.1
 
-  resolved_aim : (md : Mode) → both-aim (resolved C md) ≤ one_aim (target_of md)
+  resolved_aim : (md : Mode) → both_aim (resolved C md) ≤ one_aim (target_of md)
   resolved_aim (real a) = let h = real_aim a in omega arith
   resolved_aim (virtual v) = go (within (plain 12) (total v)) (within (twos 20) (total v))
     where
-      go : (a b : Bool) → both-aim (cond a (None, bxd12 v.base (int_reg zero_reg) (total v) v.flags) (cond b (None, bxd20 v.base (int_reg zero_reg) (total v) v.flags) (Some (lgfi (int_reg C.temporary) (total v)), bxd12 v.base (int_reg C.temporary) (pos 0) v.flags))) ≤ 0
+      go : (a b : Bool) → both_aim (cond a (None, bxd12 v.base (int_reg zero_reg) (total v) v.flags) (cond b (None, bxd20 v.base (int_reg zero_reg) (total v) v.flags) (Some (lgfi (int_reg C.temporary) (total v)), bxd12 v.base (int_reg C.temporary) (pos 0) v.flags))) ≤ 0
       go true b = omega arith
       go false true = omega arith
       go false false = omega arith
 
-  abbrev planned-aim : Helpers × Address → ℕ
-  planned-aim p = helpers_aim (list_of p.0) + aim_of p.1
+  abbrev planned_aim : Helpers × Address → ℕ
+  planned_aim p = helpers_aim (list_of p.0) + aim_of p.1
 
-  loaded_aim : (mi : MemInstType) (h : Option Helper) (a : Address) → planned-aim (loaded C mi h a) ≤ both-aim (h, a)
+  loaded_aim : (mi : MemInstType) (h : Option Helper) (a : Address) → planned_aim (loaded C mi h a) ≤ both_aim (h, a)
   loaded_aim mi h a = go (must_load mi a) h
     where
-      go : (b : Bool) (k : Option Helper) → planned-aim (cond b (also k (load_address (int_reg C.temporary) a), bxd12 (int_reg C.temporary) (int_reg zero_reg) (pos 0) (flags_of a)) (only k, a)) ≤ both-aim (k, a)
+      go : (b : Bool) (k : Option Helper) → planned_aim (cond b (also k (load_address (int_reg C.temporary) a), bxd12 (int_reg C.temporary) (int_reg zero_reg) (pos 0) (flags_of a)) (only k, a)) ≤ both_aim (k, a)
       go true None = omega arith
       go true (Some x) = omega arith
       go false k = omega arith

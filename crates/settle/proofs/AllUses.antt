@@ -16,26 +16,26 @@ no_use = record { place = 0; kind = 0; target = to_label 0 }
 
 module _ (L S : Family) (where_is : Target → Option ℤ) where
   -- why this use is refused
-  abbrev refusal-of : List ℕ → Use → Option Refusal
-  refusal-of code u = distance_refused (family_for L S u.target).fields u code (where_is u.target)
+  abbrev refusal_of : List ℕ → Use → Option Refusal
+  refusal_of code u = distance_refused (family_for L S u.target).fields u code (where_is u.target)
 
   none_of : (o p : Option Refusal) → first_of o p ≡ None → (o ≡ None) × (p ≡ None)
   none_of None p h = (refl, h)
   none_of (Some e) p h = let z : ◌≡◌ {A = ℕ} 0 1 = cc in absurd (omega arith)
 
   module _ (code : List ℕ) where
-    passed_more : (us : List Use) (i : ℕ) → i < length us → uses_refusal L S where_is code (take i us) ≡ None → refusal-of code (get_or us i no_use) ≡ None → uses_refusal L S where_is code (take (suc i) us) ≡ None
+    passed_more : (us : List Use) (i : ℕ) → i < length us → uses_refusal L S where_is code (take i us) ≡ None → refusal_of code (get_or us i no_use) ≡ None → uses_refusal L S where_is code (take (suc i) us) ≡ None
     passed_more [] i h c e = absurd (not-suc-le-zero h)
     passed_more (u ∷ us) zero h c e = ap (λ (o : Option Refusal). first_of o None) e
     passed_more (u ∷ us) (suc i) h c e =
-        let t = none_of (refusal-of code u) (uses_refusal L S where_is code (take i us)) c in
+        let t = none_of (refusal_of code u) (uses_refusal L S where_is code (take i us)) c in
         ap (λ (o : Option Refusal). first_of o (uses_refusal L S where_is code (take (suc i) us))) t.0 ∙ passed_more us i (le_of_suc-le-suc h) t.1 e
 
-    stopped : (us : List Use) (i : ℕ) (r : Refusal) → i < length us → uses_refusal L S where_is code (take i us) ≡ None → refusal-of code (get_or us i no_use) ≡ Some r → uses_refusal L S where_is code us ≡ Some r
+    stopped : (us : List Use) (i : ℕ) (r : Refusal) → i < length us → uses_refusal L S where_is code (take i us) ≡ None → refusal_of code (get_or us i no_use) ≡ Some r → uses_refusal L S where_is code us ≡ Some r
     stopped [] i r h c e = absurd (not-suc-le-zero h)
     stopped (u ∷ us) zero r h c e = ap (λ (o : Option Refusal). first_of o (uses_refusal L S where_is code us)) e
     stopped (u ∷ us) (suc i) r h c e =
-        let t = none_of (refusal-of code u) (uses_refusal L S where_is code (take i us)) c in
+        let t = none_of (refusal_of code u) (uses_refusal L S where_is code (take i us)) c in
         ap (λ (o : Option Refusal). first_of o (uses_refusal L S where_is code us)) t.0 ∙ stopped us i r (le_of_suc-le-suc h) t.1 e
 
     -- what the loop that checks has shown
@@ -44,7 +44,7 @@ module _ (L S : Family) (where_is : Target → Option ℤ) where
       here = get_or us i no_use
 
       module _ (within : i < length us) (so_far : uses_refusal L S where_is code (take i us) ≡ None) (w : Option ℤ) (is : w ≡ distance_from here.place (where_is here.target)) where
-        said : refused_for (family_for L S here.target).fields here code w ≡ refusal-of code here
+        said : refused_for (family_for L S here.target).fields here code w ≡ refusal_of code here
         said = ap (refused_for (family_for L S here.target).fields here code) is ∙ refused_is (family_for L S here.target).fields here code (where_is here.target)
 
         pub checked_more : (d : ℤ) → Ok d ≡ planned (family_for L S here.target).fields here (length code) w → uses_refusal L S where_is code (take (i + 1) us) ≡ None

@@ -14,7 +14,7 @@ unreachable-requires c =
     let es = entries_in c.args.catalogue.now in
     let b : Bound (state c.args.section.now es c.args.code.now) c.put_to_label-branch.result c.access-loaded.result (plain c.bind.result) (state c.bind.new.self es c.access-loaded.new.code) =
     up_to_bind {s1 = state c.reserve.new.self es c.args.code.now} {s2 = state c.put_to_label-branch.new.self es c.put_to_label-branch.new.code}
-    {s3 = state c.access-loaded.new.self es c.access-loaded.new.code} {t = state c.bind.new.self es c.access-loaded.new.code} {bind-answer = plain c.bind.result} c.requires (ap numbered c.in_ok-promise.was) c.label-label.ensures (c.reserve.ensures.step es) c.put_to_label-branch.ensures.step c.access-loaded.ensures.step
+    {s3 = state c.access-loaded.new.self es c.access-loaded.new.code} {t = state c.bind.new.self es c.access-loaded.new.code} {bind_answer = plain c.bind.result} c.requires (ap numbered c.in_ok-promise.was) c.label-label.ensures (c.reserve.ensures.step es) c.put_to_label-branch.ensures.step c.access-loaded.ensures.step
     (c.bind.ensures.step es) in
     absurd (ok_err b.bind_taken (ap plain c.in-Err.is))
 
@@ -23,7 +23,7 @@ returns-in_err-branch c =
     let es = entries_in c.args.catalogue.now in
     let b : Bound (state c.args.section.now es c.args.code.now) c.put_to_label-branch.result c.access-loaded.result (plain c.bind.result) (state c.bind.new.self es c.access-loaded.new.code) =
     up_to_bind {s1 = state c.reserve.new.self es c.args.code.now} {s2 = state c.put_to_label-branch.new.self es c.put_to_label-branch.new.code}
-    {s3 = state c.access-loaded.new.self es c.access-loaded.new.code} {t = state c.bind.new.self es c.access-loaded.new.code} {bind-answer = plain c.bind.result} c.requires (ap numbered c.in_ok-promise.was) c.label-label.ensures (c.reserve.ensures.step es) c.put_to_label-branch.ensures.step c.access-loaded.ensures.step
+    {s3 = state c.access-loaded.new.self es c.access-loaded.new.code} {t = state c.bind.new.self es c.access-loaded.new.code} {bind_answer = plain c.bind.result} c.requires (ap numbered c.in_ok-promise.was) c.label-label.ensures (c.reserve.ensures.step es) c.put_to_label-branch.ensures.step c.access-loaded.ensures.step
     (c.bind.ensures.step es) in
     absurd (ok_err b.branch_taken c.in_err-branch.was)
 
@@ -32,7 +32,7 @@ returns-in_err-loaded c =
     let es = entries_in c.args.catalogue.now in
     let b : Bound (state c.args.section.now es c.args.code.now) c.put_to_label-branch.result c.access-loaded.result (plain c.bind.result) (state c.bind.new.self es c.access-loaded.new.code) =
     up_to_bind {s1 = state c.reserve.new.self es c.args.code.now} {s2 = state c.put_to_label-branch.new.self es c.put_to_label-branch.new.code}
-    {s3 = state c.access-loaded.new.self es c.access-loaded.new.code} {t = state c.bind.new.self es c.access-loaded.new.code} {bind-answer = plain c.bind.result} c.requires (ap numbered c.in_ok-promise.was) c.label-label.ensures (c.reserve.ensures.step es) c.put_to_label-branch.ensures.step c.access-loaded.ensures.step
+    {s3 = state c.access-loaded.new.self es c.access-loaded.new.code} {t = state c.bind.new.self es c.access-loaded.new.code} {bind_answer = plain c.bind.result} c.requires (ap numbered c.in_ok-promise.was) c.label-label.ensures (c.reserve.ensures.step es) c.put_to_label-branch.ensures.step c.access-loaded.ensures.step
     (c.bind.ensures.step es) in
     absurd (ok_err b.load_taken c.in_err-loaded.was)
 
@@ -41,7 +41,7 @@ returns c =
     let es = entries_in c.args.catalogue.now in
     let b : Bound (state c.args.section.now es c.args.code.now) c.put_to_label-branch.result c.access-loaded.result (plain c.bind.result) (state c.bind.new.self es c.access-loaded.new.code) =
     up_to_bind {s1 = state c.reserve.new.self es c.args.code.now} {s2 = state c.put_to_label-branch.new.self es c.put_to_label-branch.new.code}
-    {s3 = state c.access-loaded.new.self es c.access-loaded.new.code} {t = state c.bind.new.self es c.access-loaded.new.code} {bind-answer = plain c.bind.result} c.requires (ap numbered c.in_ok-promise.was) c.label-label.ensures (c.reserve.ensures.step es) c.put_to_label-branch.ensures.step c.access-loaded.ensures.step
+    {s3 = state c.access-loaded.new.self es c.access-loaded.new.code} {t = state c.bind.new.self es c.access-loaded.new.code} {bind_answer = plain c.bind.result} c.requires (ap numbered c.in_ok-promise.was) c.label-label.ensures (c.reserve.ensures.step es) c.put_to_label-branch.ensures.step c.access-loaded.ensures.step
     (c.bind.ensures.step es) in
     let e = emitted {t = state c.put.new.self es c.put.new.code} b c.put.ensures.step in
     record { accepted = e.accepted; leaves = e.leaves; run = e.run }

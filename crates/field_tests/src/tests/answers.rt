@@ -1,7 +1,7 @@
 use field::family::FieldPatch;
 use field::verdict::FieldRefusal;
 use refusal::{Layer, Refusal};
-use std::process::Abort;
+use std::test::Fail;
 
 /// The number of a family's refusal, or 0.
 fn number<T: Drop>(r: Result<T, FieldRefusal>) -> u8 {
@@ -35,14 +35,25 @@ pub(crate) fn range<F: FieldPatch>(kind: u8) -> (i64, i64) {
 }
 
 /// Patches zero bytes with each distance in turn: the answers are as given, and what is accepted is held.
-pub(crate) fn patches<F: FieldPatch>(rt: &impl Abort, kind: u8, size: usize, cases: &[(i64, u8)]) {
+pub(crate) fn patches<F: FieldPatch>(
+    kind: u8,
+    size: usize,
+    cases: &[(i64, u8)],
+) -> Result<(), Fail> {
     for (wanted, answer) in cases {
         let mut bytes = [0u8; 8];
-        assert!(rt; size <= 8);
+        if size > 8 {
+            return Err(Fail::new("more than 8 bytes"));
+        }
         let part = &mut bytes[0..size];
-        assert!(rt; patch::<F>(kind, part, *wanted) == *answer);
-        assert!(rt; *answer != 0 || held::<F>(kind, part) == *wanted);
+        if patch::<F>(kind, part, *wanted) != *answer {
+            return Err(Fail::new("a patch answers otherwise"));
+        }
+        if *answer == 0 && held::<F>(kind, part) != *wanted {
+            return Err(Fail::new("another distance is held"));
+        }
     }
+    Ok(())
 }
 
 /// A refusal's number, place and layer, the layers counted from 1; all 0 where there is none.

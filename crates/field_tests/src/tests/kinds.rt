@@ -3,13 +3,13 @@ use crate::quarters::Quarters;
 use crate::tests::answers::{held, patch, patches, range};
 use families::labels::Labels;
 use families::relocations::Relocations;
+use std::test::Fail;
 
 // both ends, one past each, odd distances
 #[test]
-fn labels_short(rt: HostRuntime) {
+fn labels_short(rt: HostRuntime) -> Result<(), Fail> {
     assert!(rt; range::<Labels>(1) == (-65_536, 65_534));
     patches::<Labels>(
-        &rt,
         1,
         4,
         &[
@@ -23,14 +23,13 @@ fn labels_short(rt: HostRuntime) {
             (7, 13),
             (-65_535, 13),
         ],
-    );
+    )
 }
 
 #[test]
-fn labels_long(rt: HostRuntime) {
+fn labels_long(rt: HostRuntime) -> Result<(), Fail> {
     assert!(rt; range::<Labels>(2) == (-4_294_967_295, 4_294_967_294));
     patches::<Labels>(
-        &rt,
         2,
         6,
         &[
@@ -43,14 +42,13 @@ fn labels_long(rt: HostRuntime) {
             (i64::MAX, 10),
             (1, 13),
         ],
-    );
+    )
 }
 
 #[test]
-fn relocations_short(rt: HostRuntime) {
+fn relocations_short(rt: HostRuntime) -> Result<(), Fail> {
     assert!(rt; range::<Relocations>(1) == (-65_536, 65_534));
     patches::<Relocations>(
-        &rt,
         1,
         2,
         &[
@@ -60,14 +58,13 @@ fn relocations_short(rt: HostRuntime) {
             (65_535, 10),
             (-1, 13),
         ],
-    );
+    )
 }
 
 #[test]
-fn relocations_long(rt: HostRuntime) {
+fn relocations_long(rt: HostRuntime) -> Result<(), Fail> {
     assert!(rt; range::<Relocations>(2) == (-4_294_967_296, 4_294_967_294));
     patches::<Relocations>(
-        &rt,
         2,
         4,
         &[
@@ -77,13 +74,12 @@ fn relocations_long(rt: HostRuntime) {
             (4_294_967_295, 10),
             (3, 13),
         ],
-    );
+    )
 }
 
 #[test]
-fn quarters(rt: HostRuntime) {
+fn quarters() -> Result<(), Fail> {
     patches::<Quarters>(
-        &rt,
         0,
         4,
         &[
@@ -94,28 +90,23 @@ fn quarters(rt: HostRuntime) {
             (2, 13),
             (-1, 13),
         ],
-    );
+    )
 }
 
 #[test]
-fn added(rt: HostRuntime) {
-    patches::<Added>(
-        &rt,
-        7,
-        1,
-        &[(-128, 0), (127, 0), (-1, 0), (-129, 10), (128, 10)],
-    );
+fn added() -> Result<(), Fail> {
+    patches::<Added>(7, 1, &[(-128, 0), (127, 0), (-1, 0), (-129, 10), (128, 10)])
 }
 
 // one byte too few, and kinds that no family has
 #[test]
-fn too_few_bytes(rt: HostRuntime) {
-    patches::<Labels>(&rt, 1, 3, &[(0, 2), (65_536, 2)]);
-    patches::<Labels>(&rt, 2, 5, &[(0, 2)]);
-    patches::<Relocations>(&rt, 1, 1, &[(0, 2)]);
-    patches::<Relocations>(&rt, 2, 3, &[(1, 2)]);
-    patches::<Labels>(&rt, 0, 8, &[(0, 2)]);
-    patches::<Relocations>(&rt, 3, 8, &[(0, 2)]);
+fn too_few_bytes() -> Result<(), Fail> {
+    patches::<Labels>(1, 3, &[(0, 2), (65_536, 2)])?;
+    patches::<Labels>(2, 5, &[(0, 2)])?;
+    patches::<Relocations>(1, 1, &[(0, 2)])?;
+    patches::<Relocations>(2, 3, &[(1, 2)])?;
+    patches::<Labels>(0, 8, &[(0, 2)])?;
+    patches::<Relocations>(3, 8, &[(0, 2)])
 }
 
 // the field's bytes, the others untouched; a field that was not zero is overwritten, or added to
