@@ -103,3 +103,20 @@ pub fn routine(heap: Global) -> Result<[u8; 12], Refusal>
         Err(_) => unreachable(),
     }
 }
+
+#[cfg(test)]
+mod tests {
+    use super::*;
+    use std::test::Fail;
+
+    // brc 8,.+10; lgrl %r2,.+20; bcr 15,%r14
+    #[test]
+    fn written(rt: HostRuntime) -> Result<(), Fail> {
+        let bytes = routine(rt.alloc()).ok().ok_or("no routine")?;
+        assert_eq!(rt;
+            bytes,
+            [0xa7, 0x84, 0, 5, 0xc4, 0x28, 0, 0, 0, 0x0a, 0x07, 0xfe]
+        );
+        Ok(())
+    }
+}
