@@ -10,7 +10,7 @@ use form::instr::{Entry, Instr};
 use operand::reg::Reg;
 
 /// An instruction that accesses memory, with the opcodes that it may be written by.
-#[derive(Clone, Copy)]
+#[derive(Clone, Copy, PartialEq, Eq, Debug)]
 pub enum Access {
     /// By RX, RXY or RIL-b.
     Mem {
@@ -124,14 +124,14 @@ impl Access {
 }
 
 /// An instruction to write, and what it is aimed at; an aimed one has distance 0 as yet.
-#[derive(Clone, Copy)]
+#[derive(Clone, Copy, PartialEq, Eq, Debug)]
 pub struct Aimed {
     pub instr: Instr,
     pub aim: Option<Target>,
 }
 
 /// What an access writes: at most two helpers, in order, and then the access.
-#[derive(Clone, Copy)]
+#[derive(Clone, Copy, PartialEq, Eq, Debug)]
 pub struct AccessPlan {
     pub first: Option<Aimed>,
     pub second: Option<Aimed>,

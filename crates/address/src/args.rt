@@ -10,7 +10,7 @@ use operand::imms::{SImm20, UImm12};
 use operand::reg::{Reg, is_gpr};
 
 /// Whether an address is aligned, and the trap code of an access to it, 0 for none.
-#[derive(Clone, Copy)]
+#[derive(Clone, Copy, PartialEq, Eq, Debug)]
 pub struct MachMemFlags {
     pub aligned: bool,
     pub trap: u8,
@@ -29,7 +29,7 @@ impl MachMemFlags {
 }
 
 /// A memory argument to load/store, encapsulating the possible addressing modes.
-#[derive(Clone, Copy)]
+#[derive(Clone, Copy, PartialEq, Eq, Debug)]
 pub enum MemArg {
     //
     // Real addressing modes:
@@ -179,7 +179,7 @@ impl MemArg {
 }
 
 /// What addressing an instruction has.
-#[derive(Clone, Copy)]
+#[derive(Clone, Copy, PartialEq, Eq, Debug)]
 pub struct MemInstType {
     /// A 12-bit unsigned displacement.
     pub have_d12: bool,
@@ -194,7 +194,7 @@ pub struct MemInstType {
 }
 
 /// An offset from a register, of any size: `off` + `sizes` − `less`.
-#[derive(Clone, Copy)]
+#[derive(Clone, Copy, PartialEq, Eq, Debug)]
 pub struct Offset {
     pub base: Reg,
     pub off: i64,
@@ -204,7 +204,7 @@ pub struct Offset {
 }
 
 /// An instruction that comes before an access and sets a register for it.
-#[derive(Clone, Copy)]
+#[derive(Clone, Copy, PartialEq, Eq, Debug)]
 pub enum Helper {
     /// The register becomes this number.
     Lgfi { rd: Reg, imm: i32 },
@@ -213,7 +213,7 @@ pub enum Helper {
 }
 
 /// At most two helpers, in order: no second one without a first.
-#[derive(Clone, Copy)]
+#[derive(Clone, Copy, PartialEq, Eq, Debug)]
 pub struct Helpers {
     pub first: Option<Helper>,
     pub second: Option<Helper>,

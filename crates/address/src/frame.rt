@@ -1,5 +1,5 @@
 /// The sizes and offsets of a stack frame.
-#[derive(Clone, Copy)]
+#[derive(Clone, Copy, PartialEq, Eq, Debug)]
 pub struct Frame {
     pub incoming_args_size: u32,
     pub clobber_size: u32,

@@ -2,7 +2,7 @@ ghost use Rattle.std.specs.Prelude.{◌≡◌};
 ghost use Rattle.book.specs.Labels.{is_usable};
 
 /// What became of a label that was reserved.
-#[derive(Clone, Copy)]
+#[derive(Clone, Copy, PartialEq, Eq, Debug)]
 pub enum Slot {
     Waiting,
     /// at this place
@@ -11,14 +11,14 @@ pub enum Slot {
 }
 
 /// What a field is to reach: a label, or a symbol and an offset.
-#[derive(Clone, Copy)]
+#[derive(Clone, Copy, PartialEq, Eq, Debug)]
 pub enum Target {
     Label(usize),
     Symbol(usize, i32),
 }
 
 /// A field to fill: its instruction's place, the family's kind, and the target.
-#[derive(Clone, Copy)]
+#[derive(Clone, Copy, PartialEq, Eq, Debug)]
 pub struct Use {
     pub place: usize,
     pub kind: u8,

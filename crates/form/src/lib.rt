@@ -8,7 +8,7 @@ pub mod instr;
 pub mod table;
 
 /// The instruction forms, in the order of the encoders.
-#[derive(Clone, Copy)]
+#[derive(Clone, Copy, PartialEq, Eq, Debug)]
 pub enum Form {
     E,
     RiA,
@@ -50,7 +50,7 @@ pub enum Form {
 }
 
 /// The kinds of operands.
-#[derive(Clone, Copy)]
+#[derive(Clone, Copy, PartialEq, Eq, Debug)]
 pub enum OperandKind {
     /// an integer register, 0 to 15
     G,

@@ -6,94 +6,13 @@ use crate::{Form, OperandKind};
 use std::fmt;
 
 /// Which digits of a row are the opcode's: 0 and 1; 0, 1 and 3; 0 to 3; or 0, 1, 10 and 11.
-#[derive(Clone, Copy)]
+#[derive(Clone, Copy, PartialEq, Eq, Debug)]
 pub enum OpcodeDigits {
     Two,
     Three,
     FourFront,
     FourEnds,
 }
-
-// By the form's number.
-const SIZES: [usize; 37] = [
-    2, // E
-    4, // RI-a
-    4, // RI-b
-    4, // RI-c
-    6, // RIE-a
-    6, // RIE-d
-    6, // RIE-f
-    6, // RIE-g
-    6, // RIL-a
-    6, // RIL-b
-    6, // RIL-c
-    2, // RR
-    4, // RRD
-    4, // RRE
-    4, // RRF-ab
-    4, // RRF-cde
-    4, // RS
-    6, // RSY
-    4, // RX
-    6, // RXY
-    4, // SI
-    6, // SIL
-    6, // SIY
-    6, // VRI-a
-    6, // VRI-b
-    6, // VRI-c
-    6, // VRI-k
-    6, // VRR-a
-    6, // VRR-b
-    6, // VRR-c
-    6, // VRR-d
-    6, // VRR-e
-    6, // VRR-f
-    6, // VRS-a
-    6, // VRS-b
-    6, // VRS-c
-    6, // VRX
-];
-
-const OPCODE_DIGITS: [OpcodeDigits; 37] = [
-    OpcodeDigits::FourFront, // E
-    OpcodeDigits::Three, // RI-a
-    OpcodeDigits::Three, // RI-b
-    OpcodeDigits::Three, // RI-c
-    OpcodeDigits::FourEnds, // RIE-a
-    OpcodeDigits::FourEnds, // RIE-d
-    OpcodeDigits::FourEnds, // RIE-f
-    OpcodeDigits::FourEnds, // RIE-g
-    OpcodeDigits::Three, // RIL-a
-    OpcodeDigits::Three, // RIL-b
-    OpcodeDigits::Three, // RIL-c
-    OpcodeDigits::Two, // RR
-    OpcodeDigits::FourFront, // RRD
-    OpcodeDigits::FourFront, // RRE
-    OpcodeDigits::FourFront, // RRF-ab
-    OpcodeDigits::FourFront, // RRF-cde
-    OpcodeDigits::Two, // RS
-    OpcodeDigits::FourEnds, // RSY
-    OpcodeDigits::Two, // RX
-    OpcodeDigits::FourEnds, // RXY
-    OpcodeDigits::Two, // SI
-    OpcodeDigits::FourFront, // SIL
-    OpcodeDigits::FourEnds, // SIY
-    OpcodeDigits::FourEnds, // VRI-a
-    OpcodeDigits::FourEnds, // VRI-b
-    OpcodeDigits::FourEnds, // VRI-c
-    OpcodeDigits::FourEnds, // VRI-k
-    OpcodeDigits::FourEnds, // VRR-a
-    OpcodeDigits::FourEnds, // VRR-b
-    OpcodeDigits::FourEnds, // VRR-c
-    OpcodeDigits::FourEnds, // VRR-d
-    OpcodeDigits::FourEnds, // VRR-e
-    OpcodeDigits::FourEnds, // VRR-f
-    OpcodeDigits::FourEnds, // VRS-a
-    OpcodeDigits::FourEnds, // VRS-b
-    OpcodeDigits::FourEnds, // VRS-c
-    OpcodeDigits::FourEnds, // VRX
-];
 
 impl Form {
     /// A form's number, by which forms are told apart.
@@ -107,14 +26,37 @@ impl Form {
     pub fn size(self) -> usize
         ensures { result ≡ size_of self }
     {
-        SIZES[self.number() as usize]
+        match self {
+            Form::E | Form::Rr => 2,
+            Form::RiA | Form::RiB | Form::RiC => 4,
+            Form::Rrd | Form::Rre | Form::RrfAb | Form::RrfCde => 4,
+            Form::Rs | Form::Rx | Form::Si => 4,
+            Form::RieA | Form::RieD | Form::RieF | Form::RieG => 6,
+            Form::RilA | Form::RilB | Form::RilC => 6,
+            Form::Rsy | Form::Rxy | Form::Sil | Form::Siy => 6,
+            Form::VriA | Form::VriB | Form::VriC | Form::VriK => 6,
+            Form::VrrA | Form::VrrB | Form::VrrC | Form::VrrD | Form::VrrE | Form::VrrF => 6,
+            Form::VrsA | Form::VrsB | Form::VrsC | Form::Vrx => 6,
+        }
     }
 
     /// Where the opcode's digits stand.
     pub fn opcode_digits(self) -> OpcodeDigits
         ensures { places result ≡ opcode_digits_of self }
     {
-        OPCODE_DIGITS[self.number() as usize]
+        match self {
+            Form::Rr | Form::Rs | Form::Rx | Form::Si => OpcodeDigits::Two,
+            Form::RiA | Form::RiB | Form::RiC => OpcodeDigits::Three,
+            Form::RilA | Form::RilB | Form::RilC => OpcodeDigits::Three,
+            Form::E | Form::Rrd | Form::Rre => OpcodeDigits::FourFront,
+            Form::RrfAb | Form::RrfCde | Form::Sil => OpcodeDigits::FourFront,
+            Form::RieA | Form::RieD | Form::RieF | Form::RieG => OpcodeDigits::FourEnds,
+            Form::Rsy | Form::Rxy | Form::Siy => OpcodeDigits::FourEnds,
+            Form::VriA | Form::VriB | Form::VriC | Form::VriK => OpcodeDigits::FourEnds,
+            Form::VrrA | Form::VrrB | Form::VrrC => OpcodeDigits::FourEnds,
+            Form::VrrD | Form::VrrE | Form::VrrF => OpcodeDigits::FourEnds,
+            Form::VrsA | Form::VrsB | Form::VrsC | Form::Vrx => OpcodeDigits::FourEnds,
+        }
     }
 
     /// The kinds of the operands, in order.

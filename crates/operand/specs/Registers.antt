@@ -1,5 +1,5 @@
 -- Registers: a class and a number. Which of them an operand may be.
-use Rattle.std.specs.Prelude.{Bool, true, false, ◌&&◌, nat_lt}
+use Rattle.std.specs.Prelude.{ℕ, Bool, true, false, ◌&&◌, nat_lt}
 use Rattle.operand.specs.declared.reg.RegClass.{RegClass}
 use Rattle.operand.specs.declared.reg.RegClass.TheVariants.{Int, Float}
 use Rattle.operand.specs.declared.reg.Reg.{Reg}
@@ -11,6 +11,13 @@ is_int Float = false
 abbrev pub is_float : RegClass → Bool
 is_float Int = false
 is_float Float = true
+
+-- the register of each class with this number
+abbrev pub general : ℕ → Reg
+general n = record { class = Int; number = n }
+
+abbrev pub vector : ℕ → Reg
+vector n = record { class = Float; number = n }
 
 -- a general register: integer, 0 to 15
 unfoldable pub gpr : Reg → Bool

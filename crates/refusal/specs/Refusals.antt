@@ -5,7 +5,6 @@ use Rattle.refusal.specs.declared.Reason.TheVariants.{Buffer, Kind, Misfit, Clas
 use Rattle.refusal.specs.declared.Layer.{Layer}
 use Rattle.refusal.specs.declared.Layer.TheVariants as layer
 use Rattle.refusal.specs.declared.Refusal.{Refusal}
-use Rattle.refusal.specs.declared.Placed.{Placed}
 
 -- each reason's number: 1 to 19 in the order in which a call checks, and 100 for want of memory
 abbrev pub number_of : Reason → ℕ
@@ -94,8 +93,3 @@ Answer = Result (Unit {0}) Refusal
 -- a call's answer: refused at this place, or x
 abbrev pub answer : {X : Type 0} → ℕ → Option Reason → X → Result X Refusal
 answer place o x = answered (when_some (refused_at place) o) x
-
--- a layer's answer with the place added to a refusal
-abbrev pub placed : {T E : Type 0} → ℕ → Result T E → Result T (Placed E)
-placed place (Ok x) = Ok x
-placed place (Err e) = Err (record { place = place; cause = e })

@@ -1,13 +1,13 @@
 #![tactic(auto)]
 
 ghost use Rattle.std.specs.Prelude.{◌≡◌, Some};
-ghost use Rattle.refusal.specs.Refusals.{number_of, layer_of, refused_at, distance_refused_at, placed};
+ghost use Rattle.refusal.specs.Refusals.{number_of, layer_of, refused_at, distance_refused_at};
 ghost use Rattle.refusal.specs.Names.{reason_text, layer_text, refusal_text};
 
 use std::fmt;
 
 /// Why a call was refused.
-#[derive(Clone, Copy)]
+#[derive(Clone, Copy, PartialEq, Eq, Debug)]
 pub enum Reason {
     Buffer = 1,
     Kind = 2,
@@ -33,7 +33,7 @@ pub enum Reason {
 }
 
 /// The layer that refused.
-#[derive(Clone, Copy)]
+#[derive(Clone, Copy, PartialEq, Eq, Debug)]
 pub enum Layer {
     Field,
     Form,
@@ -43,36 +43,11 @@ pub enum Layer {
 }
 
 /// A refusal: why, at which byte, by which layer.
-#[derive(Clone, Copy)]
+#[derive(Clone, Copy, PartialEq, Eq, Debug)]
 pub struct Refusal {
     pub reason: Reason,
     pub place: usize,
     pub layer: Layer,
-}
-
-/// What a layer refused, and at which byte.
-#[derive(Clone, Copy)]
-pub struct Placed<E> {
-    pub place: usize,
-    pub cause: E,
-}
-
-/// Adds the place to what a layer answered, for the `?` after it.
-pub fn at<T, E>(place: usize, r: Result<T, E>) -> Result<T, Placed<E>>
-    ensures { result ≡ placed place r }
-{
-    match r {
-        Ok(x) => Ok(x),
-        Err(cause) => Err(Placed { place, cause }),
-    }
-}
-
-impl From<Placed<Reason>> for Refusal {
-    ghost from_gives = { λ p r. r ≡ refused_at p.place p.cause };
-
-    fn from(p: Placed<Reason>) -> Refusal {
-        Refusal::at(p.place, p.cause)
-    }
 }
 
 impl Reason {
@@ -97,26 +72,32 @@ impl Reason {
     }
 }
 
+/// A refusal by this layer.
+fn refusal_by(layer: Layer, place: usize, reason: Reason) -> Refusal
+    ensures layer { result.layer ≡ layer }
+    ensures place { result.place ≡ place }
+    ensures reason { result.reason ≡ reason }
+{
+    Refusal {
+        reason,
+        place,
+        layer,
+    }
+}
+
 impl Refusal {
+    /// A refusal by the layer that refuses for this reason.
     pub fn at(place: usize, reason: Reason) -> Refusal
         ensures { result ≡ refused_at place reason }
     {
-        Refusal {
-            reason,
-            place,
-            layer: reason.layer(),
-        }
+        refusal_by(reason.layer(), place, reason)
     }
 
     /// A distance's refusal.
     pub fn of_distance(place: usize, reason: Reason) -> Refusal
         ensures { result ≡ distance_refused_at place reason }
     {
-        Refusal {
-            reason,
-            place,
-            layer: Layer::Field,
-        }
+        refusal_by(Layer::Field, place, reason)
     }
 }
 

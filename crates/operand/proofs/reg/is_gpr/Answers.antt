@@ -1,10 +1,16 @@
-use Rattle.operand.specs.Registers.{gpr}
+use Rattle.std.proofs.Common.{◌≡◌, true, false, refl, sym, ◌∙◌}
+use Rattle.operand.specs.Registers.{gpr, is_int}
+use Rattle.operand.proofs.Classes.{same_int}
 use Rattle.operand.proofs.reg.is_gpr.Goals as goal
 
-pub returns-in-Int : goal.returns-in-Int
+pub returns-then-eq : goal.returns-then-eq
 unfolding gpr
-returns-in-Int c = simp c.in-Int.is
+returns-then-eq c =
+    let e : is_int c.args.r.class ≡ true = sym (same_int c.args.r.class) ∙ (sym c.eq.ensures ∙ c.if-eq.true) in
+    rw e refl
 
-pub returns-in-Float : goal.returns-in-Float
+pub returns-else-eq : goal.returns-else-eq
 unfolding gpr
-returns-in-Float c = simp c.in-Float.is
+returns-else-eq c =
+    let e : is_int c.args.r.class ≡ false = sym (same_int c.args.r.class) ∙ (sym c.eq.ensures ∙ c.if-eq.false) in
+    rw e c.if-eq.false

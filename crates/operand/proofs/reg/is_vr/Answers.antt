@@ -1,10 +1,16 @@
-use Rattle.operand.specs.Registers.{vr}
+use Rattle.std.proofs.Common.{◌≡◌, true, false, refl, sym, ◌∙◌}
+use Rattle.operand.specs.Registers.{vr, is_float}
+use Rattle.operand.proofs.Classes.{same_float}
 use Rattle.operand.proofs.reg.is_vr.Goals as goal
 
-pub returns-in-Int : goal.returns-in-Int
+pub returns-then-eq : goal.returns-then-eq
 unfolding vr
-returns-in-Int c = simp c.in-Int.is
+returns-then-eq c =
+    let e : is_float c.args.r.class ≡ true = sym (same_float c.args.r.class) ∙ (sym c.eq.ensures ∙ c.if-eq.true) in
+    rw e refl
 
-pub returns-in-Float : goal.returns-in-Float
+pub returns-else-eq : goal.returns-else-eq
 unfolding vr
-returns-in-Float c = simp c.in-Float.is
+returns-else-eq c =
+    let e : is_float c.args.r.class ≡ false = sym (same_float c.args.r.class) ∙ (sym c.eq.ensures ∙ c.if-eq.false) in
+    rw e c.if-eq.false
