@@ -1,18 +1,9 @@
 -- Digits of a number: what a mask of one digit keeps, and the least shift at which a number is one digit.
-use Rattle.std.proofs.Common.{◌≡◌, ℕ, zero, suc, ◌+◌, ◌-◌, ◌*◌, ◌/◌, ◌%◌, ◌^◌, ◌<◌, true, false, eqb, Option, sym, ap, ◌∙◌, subst, ⊎_elim, mod-lt, mod-eq_of_lt, arith}
-use native.Mathlib.Nat.{mul-mod_left}
-use lib.Bits.{bit_and, and_zero_r}
-use Rattle.std.proofs.lemmas.Nat.{pow_pos, shl-shr, shr_split, and_mask, and_shr, and_mod}
+use Rattle.std.proofs.Common.{◌≡◌, ℕ, zero, suc, ◌+◌, ◌-◌, ◌*◌, ◌/◌, ◌%◌, ◌^◌, ◌<◌, eqb, Some, Option, sym, ap, ◌∙◌, subst, ⊎_elim, mod-lt, mod-eq_of_lt, arith}
+use Rattle.std.proofs.Math.Nat.{mul-le-mul_right, mod-le, div-mul-le_self}
+use Rattle.std.proofs.lemmas.Nat.{pow_pos, shl-shr}
 use Rattle.std.proofs.lemmas.Bool.{cond_both, eqb-true, eqb-false, eq-eqb, ne_eqb, cases_eq}
 use Rattle.operand.specs.Imms.{Digit, LeastShift, shift_from, least_shift}
-
--- a mask of the j bits from bit k on keeps that digit in its place
-pub and_digit : (n j k : ℕ) → bit_and n ((2 ^ j - 1) * 2 ^ k) ≡ n / 2 ^ k % 2 ^ j * 2 ^ k
-and_digit n j k =
-    let m : ℕ = (2 ^ j - 1) * 2 ^ k in
-    let up : bit_and n m / 2 ^ k ≡ n / 2 ^ k % 2 ^ j = and_shr n m k ∙ (ap (bit_and (n / 2 ^ k)) (shl-shr (2 ^ j - 1) k) ∙ and_mask (n / 2 ^ k) j) in
-    let low : bit_and n m % 2 ^ k ≡ 0 = and_mod n m k ∙ (ap (bit_and (n % 2 ^ k)) (mul-mod_left (2 ^ j - 1) (2 ^ k)) ∙ and_zero_r (n % 2 ^ k)) in
-    omega (arith, sym (shr_split (bit_and n m) k), ap (λ x. x * 2 ^ k) up, low)
 
 -- the digit at shift k is the one that v is, if there is one
 pub the_digit : (w v b k : ℕ) → Digit w v b k → v / 2 ^ (w * k) % 2 ^ w ≡ b
@@ -36,9 +27,28 @@ least w (suc n) k m v e below =
 pub means : (w n v : ℕ) (o : Option (ℕ × ℕ)) → o ≡ least_shift w n v → LeastShift w n v o
 means w n v o e = subst (LeastShift w n v) (sym e) (least w n 0 n v (omega arith) (λ b j h d. omega arith))
 
--- the test of the digit at shift k by a mask, where it is met and where not
-pub met : (w k v : ℕ) → v ≡ bit_and v ((2 ^ w - 1) * 2 ^ (w * k)) → eqb (v / 2 ^ (w * k) % 2 ^ w * 2 ^ (w * k)) v ≡ true
-met w k v h = eq-eqb _ _ (sym (h ∙ and_digit v w (w * k)))
+-- a number of 64 bits is not cut where it is a digit of v in its place
+in_place : (w k v : ℕ) → v < 2 ^ 64 → v / 2 ^ (w * k) % 2 ^ w * 2 ^ (w * k) < 2 ^ 64
+in_place w k v f =
+    let p = 2 ^ (w * k) in
+    let le = mul-le-mul_right p (mod-le (v / p) (2 ^ w)) in
+    let back = div-mul-le_self v p in
+    omega (arith, le, back)
 
-pub unmet : (w k v : ℕ) → (v ≡ bit_and v ((2 ^ w - 1) * 2 ^ (w * k)) → ⊥) → eqb (v / 2 ^ (w * k) % 2 ^ w * 2 ^ (w * k)) v ≡ false
-unmet w k v h = ne_eqb _ _ (λ e. h (sym e ∙ sym (and_digit v w (w * k))))
+-- one turn of the search, over digits of b bits: the digit at shift k is v, or the search goes on
+pub met : (w b n k v d : ℕ) → b ≡ w → v < 2 ^ 64 → k < n → d ≡ v / 2 ^ (b * k) % 2 ^ w → d * 2 ^ (b * k) % 2 ^ 64 ≡ v → shift_from w (n - k) k v ≡ Some (d, k)
+met w b n k v d s f h e t =
+    let more : n - k ≡ suc (n - suc k) = omega (arith, h) in
+    let at : d ≡ v / 2 ^ (w * k) % 2 ^ w = e ∙ ap (λ x. v / 2 ^ (x * k) % 2 ^ w) s in
+    let is : v / 2 ^ (w * k) % 2 ^ w * 2 ^ (w * k) ≡ v =
+    sym (mod-eq_of_lt (in_place w k v f)) ∙ (ap (λ x. x * 2 ^ (w * k) % 2 ^ 64) (sym at) ∙ (ap (λ x. d * 2 ^ (x * k) % 2 ^ 64) (sym s) ∙ t)) in
+    rw more (rw (eq-eqb _ _ is) (ap (λ x. Some (x, k)) (sym at)))
+
+pub unmet : (w b n k v d : ℕ) → b ≡ w → v < 2 ^ 64 → k < n → d ≡ v / 2 ^ (b * k) % 2 ^ w → (d * 2 ^ (b * k) % 2 ^ 64 ≡ v → ⊥) → shift_from w (n - k) k v ≡ shift_from w (n - (k + 1)) (k + 1) v
+unmet w b n k v d s f h e t =
+    let more : n - k ≡ suc (n - (k + 1)) = omega (arith, h) in
+    let at : d ≡ v / 2 ^ (w * k) % 2 ^ w = e ∙ ap (λ x. v / 2 ^ (x * k) % 2 ^ w) s in
+    let not : v / 2 ^ (w * k) % 2 ^ w * 2 ^ (w * k) ≡ v → ⊥ =
+    λ is. t (ap (λ x. d * 2 ^ (x * k) % 2 ^ 64) s ∙ (ap (λ x. x * 2 ^ (w * k) % 2 ^ 64) at ∙ (mod-eq_of_lt (in_place w k v f) ∙ is))) in
+    let next : suc k ≡ k + 1 = omega arith in
+    rw more (rw (ne_eqb _ _ not) (ap (λ i. shift_from w (n - (k + 1)) i v) next))

@@ -3,8 +3,7 @@ use Rattle.std.specs.Prelude.{◌≡◌, ℕ, zero, suc, ◌*◌, ◌/◌, ◌%�
 use Rattle.refusal.specs.Numbers.{Width, within}
 use Rattle.operand.specs.declared.imms.UImm12.{UImm12}
 use Rattle.operand.specs.declared.imms.SImm20.{SImm20}
-use Rattle.operand.specs.declared.imms.UImm16Shifted.{UImm16Shifted}
-use Rattle.operand.specs.declared.imms.UImm32Shifted.{UImm32Shifted}
+use Rattle.operand.specs.declared.imms.Shifted.{Shifted}
 
 -- the number that an immediate is
 abbrev pub number_12 : UImm12 → ℤ
@@ -17,17 +16,13 @@ number_20 s = s.value
 abbrev pub if_within : Width → ℤ → Option ℤ
 if_within w z = cond (within w z) (Some z) None
 
-abbrev pub shifted_16 : ℕ → ℕ → UImm16Shifted
-shifted_16 b k = record { bits = b; shift = k }
+-- the digit b shifted left by k digits
+abbrev pub shifted : {T : Type 0} → T → ℕ → Shifted T
+shifted b k = record { bits = b; shift = k }
 
-abbrev pub shifted_32 : ℕ → ℕ → UImm32Shifted
-shifted_32 b k = record { bits = b; shift = k }
-
-abbrev pub parts_16 : UImm16Shifted → ℕ × ℕ
-parts_16 i = (i.bits, i.shift)
-
-abbrev pub parts_32 : UImm32Shifted → ℕ × ℕ
-parts_32 i = (i.bits, i.shift)
+-- its digit as a number, and its shift
+abbrev pub parts : {T : Type 0} → (T → ℕ) → Shifted T → ℕ × ℕ
+parts number i = (number i.bits, i.shift)
 
 -- the number v is the digit b, of w bits, shifted left by k digits
 pub record Digit (w v b k : ℕ) : Type 0 where

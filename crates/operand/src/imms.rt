@@ -1,7 +1,6 @@
 ghost use Rattle.std.specs.Prelude.{◌<◌, pos, negsuc, ◌≤ℤ◌, ◌<ℤ◌};
 
-mod shifted_16;
-mod shifted_32;
+pub mod digits;
 mod signed_20;
 mod unsigned_12;
 
@@ -20,18 +19,16 @@ pub struct SImm20 {
     ghost high: { value <ℤ pos 524288 },
 }
 
-/// A 16-bit immediate with a {0,16,32,48}-bit shift.
+/// An immediate of one digit that is shifted left by whole digits.
 #[derive(Clone, Copy, PartialEq, Eq, Debug)]
-pub struct UImm16Shifted {
-    pub bits: u16,
-    /// The result is `bits` shifted 16*shift bits to the left.
+pub struct Shifted<T> {
+    pub bits: T,
+    /// The result is `bits` shifted left by so many digits.
     pub shift: u8,
 }
 
+/// A 16-bit immediate with a {0,16,32,48}-bit shift.
+pub type UImm16Shifted = Shifted<u16>;
+
 /// A 32-bit immediate with a {0,32}-bit shift.
-#[derive(Clone, Copy, PartialEq, Eq, Debug)]
-pub struct UImm32Shifted {
-    pub bits: u32,
-    /// The result is `bits` shifted 32*shift bits to the left.
-    pub shift: u8,
-}
+pub type UImm32Shifted = Shifted<u32>;
