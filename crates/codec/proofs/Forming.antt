@@ -1,5 +1,5 @@
 -- The encoders, given the operands that a form takes, form the instruction's bytes.
-use Rattle.std.proofs.Common.{◌≡◌, ℕ, ◌%◌, ◌≤◌, Bool, true, not, ◌&&◌, ltb, leb, List, [], ◌∷◌, map, length, get_or, ℤ, pos, negsuc, sym, refl, ap, ◌∙◌, mod-eq_of_lt, arith}
+use Rattle.std.proofs.Common.{◌≡◌, ℕ, ◌%◌, ◌≤◌, Bool, true, not, ◌&&◌, ltb, leb, List, [], ◌∷◌, map, length, get_or, ℤ, pos, negsuc, sym, refl, ap, ◌∙◌, mod-eq_of_lt, arith, ◌⊎◌, ⊎_elim, w64, to_z, of_z}
 use mathlib.Core.Bool.{false≢true}
 use lib.Signed.{shr_z}
 use Rattle.refusal.specs.Numbers.{wrap}
@@ -11,11 +11,10 @@ use Rattle.form.specs.declared.Form.{Form}
 use Rattle.form.specs.declared.Form.TheVariants.{RilA, RilB, RilC}
 use Rattle.form.specs.declared.OperandKind.{OperandKind}
 use Rattle.form.specs.declared.OperandKind.TheVariants.{G, N, V, F, M, U8, U16, U32, S16, D12, D20, H16, H32}
-use Rattle.form.specs.Form.{row, kinds, size}
+use Rattle.form.specs.Form.{row, kinds}
 use Rattle.form.specs.Encode.{In, takes, operand_bits, operands_bits, pairs, value, encode}
 use Rattle.form.specs.Encoders.{Operand, register, numeral, value_of, of_kind, of_kinds, encoder, encoder_answer}
 use Rattle.form.proofs.Tests.{left, right, both, ltb_is}
-use Rattle.codec.specs.Encoded.{padded, encoded}
 use Rattle.codec.specs.Given.{given, given_from, general_reg}
 use Rattle.codec.proofs.Sums.{few_kinds}
 
@@ -109,22 +108,43 @@ by_number (u ∷ v ∷ w ∷ x ∷ y ∷ []) h a b c d e f = refl
 by_number (u ∷ v ∷ w ∷ x ∷ y ∷ z ∷ []) h a b c d e f = refl
 by_number (u ∷ v ∷ w ∷ x ∷ y ∷ z ∷ k ∷ ks) h a b c d e f = absurd (omega arith)
 
-formed : (f : Form) (o : ℕ) (zs : List ℤ) → length zs ≡ 6 → takes (kinds f) zs ≡ true → encoder f o (given_from 0 (kinds f) zs) ≡ (encode f o zs, 0)
-formed f o [] n h = absurd (omega arith)
-formed f o (a ∷ []) n h = absurd (omega arith)
-formed f o (a ∷ b ∷ []) n h = absurd (omega arith)
-formed f o (a ∷ b ∷ c ∷ []) n h = absurd (omega arith)
-formed f o (a ∷ b ∷ c ∷ d ∷ []) n h = absurd (omega arith)
-formed f o (a ∷ b ∷ c ∷ d ∷ e ∷ []) n h = absurd (omega arith)
-formed f o (a ∷ b ∷ c ∷ d ∷ e ∷ g ∷ []) n h = ap (encoder f o) (by_number (kinds f) (few_kinds f) a b c d e g) ∙ formed_all f o (a ∷ b ∷ c ∷ d ∷ e ∷ g ∷ []) h
-formed f o (a ∷ b ∷ c ∷ d ∷ e ∷ g ∷ k ∷ zs) n h = absurd (omega arith)
+-- the operands as the code reads them, one by one
+abbrev told : List ℤ → ℕ → ℤ
+told zs i = to_z w64 (of_z w64 (get_or zs i (pos 0)))
+
+abbrev pub told_six : List ℤ → List ℤ
+told_six zs = told zs 0 ∷ told zs 1 ∷ told zs 2 ∷ told zs 3 ∷ told zs 4 ∷ told zs 5 ∷ []
+
+pub record Read (zs : List ℤ) : Type 0 where
+  pub six : length zs ≡ 6
+  pub a : told zs 0 ≡ get_or zs 0 (pos 0)
+  pub b : told zs 1 ≡ get_or zs 1 (pos 0)
+  pub c : told zs 2 ≡ get_or zs 2 (pos 0)
+  pub d : told zs 3 ≡ get_or zs 3 (pos 0)
+  pub e : told zs 4 ≡ get_or zs 4 (pos 0)
+  pub f : told zs 5 ≡ get_or zs 5 (pos 0)
+
+read_is : (zs : List ℤ) → Read zs → told_six zs ≡ zs
+read_is [] r = let n = r.six in absurd (omega arith)
+read_is (a ∷ []) r = let n = r.six in absurd (omega arith)
+read_is (a ∷ b ∷ []) r = let n = r.six in absurd (omega arith)
+read_is (a ∷ b ∷ c ∷ []) r = let n = r.six in absurd (omega arith)
+read_is (a ∷ b ∷ c ∷ d ∷ []) r = let n = r.six in absurd (omega arith)
+read_is (a ∷ b ∷ c ∷ d ∷ e ∷ []) r = let n = r.six in absurd (omega arith)
+read_is (a ∷ b ∷ c ∷ d ∷ e ∷ g ∷ []) r = rw (r.a, r.b, r.c, r.d, r.e, r.f) refl
+read_is (a ∷ b ∷ c ∷ d ∷ e ∷ g ∷ k ∷ zs) r = let n = r.six in absurd (omega arith)
+
+formed : (f : Form) (o : ℕ) (zs : List ℤ) → Read zs → takes (kinds f) zs ≡ true → encoder f o (given_from 0 (kinds f) (told_six zs)) ≡ (encode f o zs, 0)
+formed f o zs r h =
+    ap (encoder f o) (by_number (kinds f) (few_kinds f) (told zs 0) (told zs 1) (told zs 2) (told zs 3) (told zs 4) (told zs 5) ∙ ap (given_all (kinds f)) (read_is zs r))
+    ∙ formed_all f o zs h
 
 -- an encoder's answer, of the operands as they are given
-pub by_encoder : (form f : Form) (o : ℕ) (zs : List ℤ) → form ≡ f → length zs ≡ 6 → takes (kinds form) zs ≡ true
-    → (r : List ℕ × ℕ) (xs : List Operand) → r ≡ encoder f o xs → xs ≡ given_from 0 (kinds f) zs → padded (size f) r.0 ≡ encoded form o zs
+pub by_encoder : (form f : Form) (o : ℕ) (zs : List ℤ) → form ≡ f → Read zs → takes (kinds form) zs ≡ true
+    → (r : List ℕ × ℕ) (xs : List Operand) → r ≡ encoder f o xs → xs ≡ given_from 0 (kinds f) (told_six zs) → r.0 ≡ encode form o zs
 by_encoder form f o zs i n h r xs e g =
     let t : takes (kinds f) zs ≡ true = ap (λ (k : Form). takes (kinds k) zs) (sym i) ∙ h in
-    ap (λ (p : List ℕ × ℕ). padded (size f) p.0) (e ∙ ap (encoder f o) g ∙ formed f o zs n t) ∙ ap (λ (k : Form). encoded k o zs) (sym i)
+    ap (λ (p : List ℕ × ℕ). p.0) (e ∙ ap (encoder f o) g ∙ formed f o zs n t) ∙ ap (λ (k : Form). encode k o zs) (sym i)
 
 -- RIL-b and RIL-c have the row of RIL-a, with half of the distance for its number
 
@@ -155,17 +175,12 @@ relative_c o [] n h = absurd (omega arith)
 relative_c o (a ∷ []) n h = absurd (omega arith)
 relative_c o (a ∷ b ∷ zs) n h = relative_all o a b (left (In M a) (takes (H32 ∷ []) (b ∷ zs)) h)
 
-pub by_ril_b : (form : Form) (o : ℕ) (zs : List ℤ) → form ≡ RilB → length zs ≡ 6 → takes (kinds form) zs ≡ true
-    → (r : List ℕ × ℕ) (xs : List Operand) → r ≡ encoder RilA o xs → xs ≡ halves zs → padded 6 r.0 ≡ encoded form o zs
-by_ril_b form o zs i n h r xs e g =
-    let t : takes (kinds RilB) zs ≡ true = ap (λ (k : Form). takes (kinds k) zs) (sym i) ∙ h in
-    ap (λ (p : List ℕ × ℕ). padded 6 p.0) (e ∙ ap (encoder RilA o) g ∙ relative_b o zs n t) ∙ ap (λ (k : Form). encoded k o zs) (sym i)
-
-pub by_ril_c : (form : Form) (o : ℕ) (zs : List ℤ) → form ≡ RilC → length zs ≡ 6 → takes (kinds form) zs ≡ true
-    → (r : List ℕ × ℕ) (xs : List Operand) → r ≡ encoder RilA o xs → xs ≡ halves zs → padded 6 r.0 ≡ encoded form o zs
-by_ril_c form o zs i n h r xs e g =
-    let t : takes (kinds RilC) zs ≡ true = ap (λ (k : Form). takes (kinds k) zs) (sym i) ∙ h in
-    ap (λ (p : List ℕ × ℕ). padded 6 p.0) (e ∙ ap (encoder RilA o) g ∙ relative_c o zs n t) ∙ ap (λ (k : Form). encoded k o zs) (sym i)
+pub by_halves : (form : Form) (o : ℕ) (zs : List ℤ) → (form ≡ RilB) ⊎ (form ≡ RilC) → Read zs → takes (kinds form) zs ≡ true
+    → (r : List ℕ × ℕ) (xs : List Operand) → r ≡ encoder RilA o xs → xs ≡ halves (told_six zs) → r.0 ≡ encode form o zs
+by_halves form o zs i n h r xs e g =
+    ap (λ (p : List ℕ × ℕ). p.0) (e ∙ ap (encoder RilA o) (g ∙ ap halves (read_is zs n))) ∙ ⊎_elim (from RilB (relative_b o zs n.six)) (from RilC (relative_c o zs n.six)) i where
+      from : (f : Form) → (takes (kinds f) zs ≡ true → encoder RilA o (halves zs) ≡ (encode f o zs, 0)) → form ≡ f → (encoder RilA o (halves zs)).0 ≡ encode form o zs
+      from f k i = ap (λ (p : List ℕ × ℕ). p.0) (k (ap (λ (k : Form). takes (kinds k) zs) (sym i) ∙ h)) ∙ ap (λ (k : Form). encode k o zs) (sym i)
 
 -- lists of operands, element by element
 

@@ -1,3 +1,4 @@
 pub mod Digits
 pub mod Encoded
 pub mod Given
+pub mod Padded

@@ -1,11 +1,12 @@
-ghost use Rattle.std.specs.Prelude.{◌≡◌, ◌+◌, ◌<◌, true, pos, slice_index_or};
+ghost use Rattle.std.specs.Prelude.{◌≡◌, ◌≤◌, true, length};
 ghost use Rattle.std.specs.Int.Signed.{shr_z};
 ghost use Rattle.refusal.specs.Numbers.{wrap};
 ghost use Rattle.refusal.specs.Refusals.{answered};
 ghost use Rattle.form.specs.declared.OperandKind.TheVariants.{S16, H16};
 ghost use Rattle.form.specs.Form.{kinds as kinds_of};
 ghost use Rattle.form.specs.Encode.{In, takes as takes_them};
-ghost use Rattle.codec.specs.Encoded.{padded, encoded, operand_refusal};
+ghost use Rattle.form.specs.Instr.{bytes_of};
+ghost use Rattle.codec.specs.Encoded.{operand_refusal};
 ghost use Rattle.codec.specs.Given.{general_reg, vector_reg};
 
 use crate::operands::takes;
@@ -21,276 +22,223 @@ use enc_vec::{
     enc_vrr_e, enc_vrr_f, enc_vrs_a, enc_vrs_b, enc_vrs_c, enc_vrx,
 };
 use form::Form;
-use operand::reg::{Reg, RegClass};
+use form::instr::Instr;
+use operand::reg::{Reg, gpr, vr};
 use refusal::Reason;
+use std::marker::Model;
 
-/// The bytes of an instruction: the first `count` of them, which is 2, 4 or 6; the others are 0.
+/// The bytes of an instruction, at most six.
 #[derive(Clone, Copy)]
 pub struct Encoded {
-    pub bytes: [u8; 6],
-    pub count: usize,
+    bytes: [u8; 6],
+    count: usize,
 }
 
-fn two(answer: ([u8; 2], u8)) -> Encoded
-    ensures { result ≡ padded 2 answer.0 }
-{
-    let b = answer.0;
-    Encoded {
-        bytes: [b[0], b[1], 0, 0, 0, 0],
-        count: 2,
+// Clauses see the first `count` bytes; the others are 0.
+impl Model for Encoded {
+    ghost use Rattle.std.specs.Prelude.{◌≡◌, ℕ, ◌≤◌, List, take};
+
+    ghost Value = { List ℕ };
+
+    ghost use Rattle.codec.specs.Padded.{padded};
+
+    ghost view = { λ e. take e.count e.bytes };
+
+    ghost invariant = { λ e. (e.count ≤ 6) × (padded (take e.count e.bytes) ≡ e) };
+
+    ghost inverse = { padded };
+
+    ghost inverse_ok = { λ e h. h.1 };
+}
+
+impl Encoded {
+    fn new<const N: usize>(bytes: [u8; N]) -> Encoded
+        requires { N ≤ 6 }
+        ensures { result ≡ bytes.entry }
+    {
+        let mut padded = [0; 6];
+        padded[..N].copy_from_slice(&bytes);
+        Encoded {
+            bytes: padded,
+            count: N,
+        }
+    }
+
+    pub fn len(&self) -> usize
+        ensures { result ≡ length self.now }
+    {
+        self.count
+    }
+
+    pub fn as_slice(&self) -> &[u8]
+        ensures bytes { result.now ≡ self.now }
+        ensures few { length self.now ≤ 6 }
+    {
+        &self.bytes[..self.len()]
     }
 }
 
-fn four(answer: ([u8; 4], u8)) -> Encoded
-    ensures { result ≡ padded 4 answer.0 }
+// `byte`, `half` and `word` stay apart: the new form is no plainer, since a trait for them would have these three bodies in its impls.
+
+fn byte(z: i64) -> u8
+    ensures { result ≡ wrap 8 z }
 {
-    let b = answer.0;
-    Encoded {
-        bytes: [b[0], b[1], b[2], b[3], 0, 0],
-        count: 4,
-    }
+    (z.cast_unsigned() & 0xff) as u8
 }
 
-fn six(answer: ([u8; 6], u8)) -> Encoded
-    ensures { result ≡ padded 6 answer.0 }
+fn half(z: i64) -> u16
+    ensures { result ≡ wrap 16 z }
 {
-    let bytes = answer.0;
-    Encoded { bytes, count: 6 }
+    (z.cast_unsigned() & 0xffff) as u16
 }
 
-fn byte(z: &[i64; 6], i: usize) -> u8
-    requires { i < 6 }
-    ensures { result ≡ wrap 8 (slice_index_or z.now i (pos 0)) }
+fn word(z: i64) -> u32
+    ensures { result ≡ wrap 32 z }
 {
-    (z[i].cast_unsigned() & 0xff) as u8
-}
-
-fn half(z: &[i64; 6], i: usize) -> u16
-    requires { i < 6 }
-    ensures { result ≡ wrap 16 (slice_index_or z.now i (pos 0)) }
-{
-    (z[i].cast_unsigned() & 0xffff) as u16
-}
-
-fn word(z: &[i64; 6], i: usize) -> u32
-    requires { i < 6 }
-    ensures { result ≡ wrap 32 (slice_index_or z.now i (pos 0)) }
-{
-    (z[i].cast_unsigned() & 0xffff_ffff) as u32
+    (z.cast_unsigned() & 0xffff_ffff) as u32
 }
 
 /// A distance of kind H32, halved: the encoders of RIL-b and RIL-c halve unsigned numbers of 32 bits, and a distance has 33 bits and a
 /// sign, so that the digits are formed here and written as those of RIL-a.
-fn halved(z: &[i64; 6], i: usize) -> u32
-    requires { i < 6 }
-    ensures { result ≡ wrap 32 (shr_z (slice_index_or z.now i (pos 0)) 2) }
+fn halved(z: i64) -> u32
+    ensures { result ≡ wrap 32 (shr_z z 2) }
 {
-    ((z[i] >> 1) & 0xffff_ffff) as u32
+    ((z >> 1) & 0xffff_ffff) as u32
 }
 
-fn short(z: &[i64; 6], i: usize) -> i16
-    requires { (i < 6) × (In S16 (slice_index_or z.now i (pos 0)) ≡ true) }
-    ensures { result ≡ slice_index_or z.now i (pos 0) }
+fn short(z: i64) -> i16
+    requires { In S16 z ≡ true }
+    ensures { result ≡ z }
 {
-    z[i] as i16
+    z as i16
 }
 
-fn distance(z: &[i64; 6], i: usize) -> i32
-    requires { (i < 6) × (In H16 (slice_index_or z.now i (pos 0)) ≡ true) }
-    ensures { result ≡ slice_index_or z.now i (pos 0) }
+fn distance(z: i64) -> i32
+    requires { In H16 z ≡ true }
+    ensures { result ≡ z }
 {
-    z[i] as i32
+    z as i32
 }
 
-fn general(z: &[i64; 6], i: usize) -> Reg
-    requires { i < 6 }
-    ensures { result ≡ general_reg (slice_index_or z.now i (pos 0)) }
+fn general(z: i64) -> Reg
+    ensures { result ≡ general_reg z }
 {
-    Reg {
-        class: RegClass::Int,
-        number: byte(z, i),
-    }
+    gpr(byte(z))
 }
 
-fn vector(z: &[i64; 6], i: usize) -> Reg
-    requires { i < 6 }
-    ensures { result ≡ vector_reg (slice_index_or z.now i (pos 0)) }
+fn vector(z: i64) -> Reg
+    ensures { result ≡ vector_reg z }
 {
-    Reg {
-        class: RegClass::Float,
-        number: byte(z, i),
-    }
+    vr(byte(z))
 }
 
 /// The instruction's bytes, by the encoder of its form.
-fn formed(form: Form, opcode: u16, z: &[i64; 6]) -> Encoded
-    requires { takes_them (kinds_of form) z.now ≡ true }
-    ensures { result ≡ encoded form opcode z.now }
+fn formed(instr: &Instr) -> Encoded
+    requires { takes_them (kinds_of instr.now.form) instr.now.operands ≡ true }
+    ensures { result ≡ bytes_of instr.now }
 {
-    match form {
-        Form::E => two(enc_e(opcode)),
-        Form::RiA => four(enc_ri_a(opcode, general(z, 0), half(z, 1))),
-        Form::RiB => four(enc_ri_b(opcode, general(z, 0), distance(z, 1))),
-        Form::RiC => four(enc_ri_c(opcode, byte(z, 0), distance(z, 1))),
-        Form::RieA => six(enc_rie_a(opcode, general(z, 0), half(z, 1), byte(z, 2))),
-        Form::RieD => six(enc_rie_d(opcode, general(z, 0), general(z, 1), half(z, 2))),
-        Form::RieF => six(enc_rie_f(
-            opcode,
-            general(z, 0),
-            general(z, 1),
-            byte(z, 2),
-            byte(z, 3),
-            byte(z, 4),
-        )),
-        Form::RieG => six(enc_rie_g(opcode, general(z, 0), half(z, 1), byte(z, 2))),
-        Form::RilA => six(enc_ril_a(opcode, general(z, 0), word(z, 1))),
-        Form::RilB => six(enc_ril_a(opcode, general(z, 0), halved(z, 1))),
-        Form::RilC => six(enc_ril_a(opcode, general(z, 0), halved(z, 1))),
-        Form::Rr => two(enc_rr(opcode, general(z, 0), general(z, 1))),
-        Form::Rrd => four(enc_rrd(opcode, vector(z, 0), vector(z, 1), vector(z, 2))),
-        Form::Rre => four(enc_rre(opcode, general(z, 0), general(z, 1))),
-        Form::RrfAb => four(enc_rrf_ab(
-            opcode,
-            general(z, 0),
-            general(z, 1),
-            general(z, 2),
-            byte(z, 3),
-        )),
-        Form::RrfCde => four(enc_rrf_cde(
-            opcode,
-            general(z, 0),
-            general(z, 1),
-            byte(z, 2),
-            byte(z, 3),
-        )),
-        Form::Rs => four(enc_rs(
-            opcode,
-            general(z, 0),
-            general(z, 1),
-            general(z, 2),
-            word(z, 3),
-        )),
-        Form::Rsy => six(enc_rsy(
-            opcode,
-            general(z, 0),
-            general(z, 1),
-            general(z, 2),
-            word(z, 3),
-        )),
-        Form::Rx => four(enc_rx(
-            opcode,
-            general(z, 0),
-            general(z, 1),
-            general(z, 2),
-            word(z, 3),
-        )),
-        Form::Rxy => six(enc_rxy(
-            opcode,
-            general(z, 0),
-            general(z, 1),
-            general(z, 2),
-            word(z, 3),
-        )),
-        Form::Si => four(enc_si(opcode, general(z, 0), word(z, 1), byte(z, 2))),
-        Form::Sil => six(enc_sil(opcode, general(z, 0), word(z, 1), short(z, 2))),
-        Form::Siy => six(enc_siy(opcode, general(z, 0), word(z, 1), byte(z, 2))),
-        Form::VriA => six(enc_vri_a(opcode, vector(z, 0), half(z, 1), byte(z, 2))),
-        Form::VriB => six(enc_vri_b(opcode, vector(z, 0), byte(z, 1), byte(z, 2), byte(z, 3))),
-        Form::VriC => six(enc_vri_c(opcode, vector(z, 0), half(z, 1), vector(z, 2), byte(z, 3))),
-        Form::VriK => six(enc_vri_k(
-            opcode,
-            byte(z, 0),
-            vector(z, 1),
-            vector(z, 2),
-            vector(z, 3),
-            vector(z, 4),
-        )),
-        Form::VrrA => six(enc_vrr_a(
-            opcode,
-            vector(z, 0),
-            vector(z, 1),
-            byte(z, 2),
-            byte(z, 3),
-            byte(z, 4),
-        )),
-        Form::VrrB => six(enc_vrr_b(
-            opcode,
-            vector(z, 0),
-            vector(z, 1),
-            vector(z, 2),
-            byte(z, 3),
-            byte(z, 4),
-        )),
-        Form::VrrC => six(enc_vrr_c(
-            opcode,
-            vector(z, 0),
-            vector(z, 1),
-            vector(z, 2),
-            byte(z, 3),
-            byte(z, 4),
-            byte(z, 5),
-        )),
-        Form::VrrD => six(enc_vrr_d(
-            opcode,
-            vector(z, 0),
-            vector(z, 1),
-            vector(z, 2),
-            vector(z, 3),
-            byte(z, 4),
-            byte(z, 5),
-        )),
-        Form::VrrE => six(enc_vrr_e(
-            opcode,
-            vector(z, 0),
-            vector(z, 1),
-            vector(z, 2),
-            vector(z, 3),
-            byte(z, 4),
-            byte(z, 5),
-        )),
-        Form::VrrF => six(enc_vrr_f(opcode, vector(z, 0), general(z, 1), general(z, 2))),
-        Form::VrsA => six(enc_vrs_a(
-            opcode,
-            vector(z, 0),
-            general(z, 1),
-            word(z, 2),
-            vector(z, 3),
-            byte(z, 4),
-        )),
-        Form::VrsB => six(enc_vrs_b(
-            opcode,
-            vector(z, 0),
-            general(z, 1),
-            word(z, 2),
-            general(z, 3),
-            byte(z, 4),
-        )),
-        Form::VrsC => six(enc_vrs_c(
-            opcode,
-            general(z, 0),
-            general(z, 1),
-            word(z, 2),
-            vector(z, 3),
-            byte(z, 4),
-        )),
-        Form::Vrx => six(enc_vrx(
-            opcode,
-            vector(z, 0),
-            general(z, 1),
-            general(z, 2),
-            word(z, 3),
-            byte(z, 4),
-        )),
+    let opcode = instr.opcode;
+    let [a, b, c, d, e, f] = instr.operands;
+    match instr.form {
+        Form::E => Encoded::new(enc_e(opcode).0),
+        Form::RiA => Encoded::new(enc_ri_a(opcode, general(a), half(b)).0),
+        Form::RiB => Encoded::new(enc_ri_b(opcode, general(a), distance(b)).0),
+        Form::RiC => Encoded::new(enc_ri_c(opcode, byte(a), distance(b)).0),
+        Form::RieA => Encoded::new(enc_rie_a(opcode, general(a), half(b), byte(c)).0),
+        Form::RieD => Encoded::new(enc_rie_d(opcode, general(a), general(b), half(c)).0),
+        Form::RieF => Encoded::new(
+            enc_rie_f(opcode, general(a), general(b), byte(c), byte(d), byte(e)).0,
+        ),
+        Form::RieG => Encoded::new(enc_rie_g(opcode, general(a), half(b), byte(c)).0),
+        Form::RilA => Encoded::new(enc_ril_a(opcode, general(a), word(b)).0),
+        Form::RilB | Form::RilC => Encoded::new(enc_ril_a(opcode, general(a), halved(b)).0),
+        Form::Rr => Encoded::new(enc_rr(opcode, general(a), general(b)).0),
+        Form::Rrd => Encoded::new(enc_rrd(opcode, vector(a), vector(b), vector(c)).0),
+        Form::Rre => Encoded::new(enc_rre(opcode, general(a), general(b)).0),
+        Form::RrfAb => Encoded::new(
+            enc_rrf_ab(opcode, general(a), general(b), general(c), byte(d)).0,
+        ),
+        Form::RrfCde => Encoded::new(
+            enc_rrf_cde(opcode, general(a), general(b), byte(c), byte(d)).0,
+        ),
+        Form::Rs => Encoded::new(enc_rs(opcode, general(a), general(b), general(c), word(d)).0),
+        Form::Rsy => Encoded::new(enc_rsy(opcode, general(a), general(b), general(c), word(d)).0),
+        Form::Rx => Encoded::new(enc_rx(opcode, general(a), general(b), general(c), word(d)).0),
+        Form::Rxy => Encoded::new(enc_rxy(opcode, general(a), general(b), general(c), word(d)).0),
+        Form::Si => Encoded::new(enc_si(opcode, general(a), word(b), byte(c)).0),
+        Form::Sil => Encoded::new(enc_sil(opcode, general(a), word(b), short(c)).0),
+        Form::Siy => Encoded::new(enc_siy(opcode, general(a), word(b), byte(c)).0),
+        Form::VriA => Encoded::new(enc_vri_a(opcode, vector(a), half(b), byte(c)).0),
+        Form::VriB => Encoded::new(enc_vri_b(opcode, vector(a), byte(b), byte(c), byte(d)).0),
+        Form::VriC => Encoded::new(enc_vri_c(opcode, vector(a), half(b), vector(c), byte(d)).0),
+        Form::VriK => Encoded::new(
+            enc_vri_k(opcode, byte(a), vector(b), vector(c), vector(d), vector(e)).0,
+        ),
+        Form::VrrA => Encoded::new(
+            enc_vrr_a(opcode, vector(a), vector(b), byte(c), byte(d), byte(e)).0,
+        ),
+        Form::VrrB => Encoded::new(
+            enc_vrr_b(opcode, vector(a), vector(b), vector(c), byte(d), byte(e)).0,
+        ),
+        Form::VrrC => Encoded::new(
+            enc_vrr_c(
+                opcode,
+                vector(a),
+                vector(b),
+                vector(c),
+                byte(d),
+                byte(e),
+                byte(f),
+            )
+            .0,
+        ),
+        Form::VrrD => Encoded::new(
+            enc_vrr_d(
+                opcode,
+                vector(a),
+                vector(b),
+                vector(c),
+                vector(d),
+                byte(e),
+                byte(f),
+            )
+            .0,
+        ),
+        Form::VrrE => Encoded::new(
+            enc_vrr_e(
+                opcode,
+                vector(a),
+                vector(b),
+                vector(c),
+                vector(d),
+                byte(e),
+                byte(f),
+            )
+            .0,
+        ),
+        Form::VrrF => Encoded::new(enc_vrr_f(opcode, vector(a), general(b), general(c)).0),
+        Form::VrsA => Encoded::new(
+            enc_vrs_a(opcode, vector(a), general(b), word(c), vector(d), byte(e)).0,
+        ),
+        Form::VrsB => Encoded::new(
+            enc_vrs_b(opcode, vector(a), general(b), word(c), general(d), byte(e)).0,
+        ),
+        Form::VrsC => Encoded::new(
+            enc_vrs_c(opcode, general(a), general(b), word(c), vector(d), byte(e)).0,
+        ),
+        Form::Vrx => Encoded::new(
+            enc_vrx(opcode, vector(a), general(b), general(c), word(d), byte(e)).0,
+        ),
     }
 }
 
 /// The bytes of an instruction, the opcode cut to its digits. Refused by OPERAND where the operands are not of the form's kinds, the unused
 /// ones 0.
-pub fn encode(form: Form, opcode: u16, operands: &[i64; 6]) -> Result<Encoded, Reason>
-    ensures { result ≡ answered (operand_refusal form operands.now) (encoded form opcode operands.now) }
+pub fn encode(instr: &Instr) -> Result<Encoded, Reason>
+    ensures { result ≡ answered (operand_refusal instr.now.form instr.now.operands) (bytes_of instr.now) }
 {
-    if takes(form, operands) {
-        Ok(formed(form, opcode, operands))
+    if takes(instr.form, &instr.operands) {
+        Ok(formed(instr))
     } else {
         Err(Reason::Operand)
     }
