@@ -7,6 +7,7 @@ use Rattle.refusal.specs.declared.Reason.TheVariants as why
 use Rattle.refusal.specs.declared.Refusal.{Refusal}
 use Rattle.refusal.specs.Refusals.{distance_refused_at, unless}
 use Rattle.refusal.specs.Numbers.{signed, wrap, big_endian, bytes_of_number}
+pub use Rattle.field.specs.declared.info.FieldInfo.{FieldInfo}
 use Rattle.field.specs.declared.verdict.FieldRefusal.{FieldRefusal}
 use Rattle.field.specs.declared.verdict.FieldRefusal.TheVariants.{Kind, Far, Odd}
 
@@ -28,15 +29,6 @@ e when b = (e, b)
 abbrev pub first_refused : List (FieldRefusal × Bool) → Option FieldRefusal
 first_refused [] = None
 first_refused (t ∷ ts) = cond t.1 (Some t.0) (first_refused ts)
-
--- what a family tells of one kind
-pub record FieldInfo : Type 0 where
-  pub lead : ℕ  -- bytes from the instruction's start to the family's bytes
-  pub size : ℕ  -- how many bytes those are
-  pub first : ℕ  -- the field among them: from this byte
-  pub past : ℕ  -- up to, and without, this one
-  pub least : ℤ  -- the least distance
-  pub greatest : ℤ  -- and the greatest
 
 -- what the reading interface tells
 pub record Fields : Type 0 where

@@ -5,4 +5,5 @@
 pub mod distance;
 pub mod family;
 pub mod fit;
+pub mod info;
 pub mod verdict;
