@@ -1,8 +1,8 @@
 ghost use Rattle.std.specs.Prelude.{◌≡◌, ◌+◌, ◌&&◌, ◌||◌, pos, ◌<ℤ◌, if◌then◌else◌, None, Ok, Some, ◌==◌, int_lt, length, unsigned_abs};
 ghost use Rattle.refusal.specs.Refusals.{answered, unless};
-ghost use Rattle.field.specs.Family.{spans, refuses_by};
+ghost use Rattle.field.specs.Family.{spans, multiple, refuses_by, held_by, overwritten, Fits};
 
-
+use crate::bytes::{put_number, signed_number};
 use crate::verdict::FieldRefusal;
 
 /// What a family tells of one kind of field.
@@ -20,6 +20,14 @@ pub struct FieldInfo {
     pub least: i64,
     /// the greatest distance
     pub greatest: i64,
+}
+
+/// Whether the distance is a whole number of steps.
+fn divides(step: i64, distance: i64) -> bool
+    requires { pos 0 <ℤ step }
+    ensures { result ≡ multiple (unsigned_abs step) distance }
+{
+    distance % step == 0
 }
 
 impl FieldInfo {
@@ -57,9 +65,37 @@ impl FieldInfo {
             return Err(FieldRefusal::Kind);
         }
         let near = self.in_range(distance).ok_or(FieldRefusal::Far)?;
-        if near % align != 0 {
+        if !divides(align, near) {
             return Err(FieldRefusal::Odd);
         }
         Ok(near)
+    }
+
+    /// The distance that the bytes hold in units of `align`.
+    pub fn held(self, align: i64, bytes: &[u8]) -> Result<i64, FieldRefusal>
+        requires align { pos 0 <ℤ align }
+        requires fits { Fits (unsigned_abs align) self }
+        ensures { result ≡ held_by (unsigned_abs align) (Some self) bytes.now }
+    {
+        if bytes.len() < self.size as usize {
+            return Err(FieldRefusal::Kind);
+        }
+        Ok(align * signed_number(&bytes[self.first as usize..self.past as usize]))
+    }
+
+    /// Overwrites the field with a distance in units of `align`. Refused, no byte changes; accepted, the bytes hold the distance.
+    pub fn overwrite(self, align: i64, bytes: &mut [u8], distance: i64) -> Result<(), FieldRefusal>
+        requires align { pos 0 <ℤ align }
+        requires fits { Fits (unsigned_abs align) self }
+        ensures answers { result ≡ answered (refuses_by (unsigned_abs align) (Some self) (length bytes.old) distance) tt }
+        ensures leaves { bytes.new ≡ unless (refuses_by (unsigned_abs align) (Some self) (length bytes.old) distance) (overwritten (unsigned_abs align) (Some self) bytes.old distance) bytes.old }
+        ensures holds { result ≡ Ok tt → held_by (unsigned_abs align) (Some self) bytes.new ≡ Ok distance }
+    {
+        let distance = self.checked_distance(align, bytes.len(), distance as i128)?;
+        put_number(
+            &mut bytes[self.first as usize..self.past as usize],
+            distance / align,
+        );
+        Ok(())
     }
 }

@@ -2,6 +2,7 @@
 
 #![tactic(auto)]
 
+mod bytes;
 pub mod distance;
 pub mod family;
 pub mod fit;
