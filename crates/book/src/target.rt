@@ -30,9 +30,6 @@ impl Slot {
     pub fn is_usable(self) -> bool
         ensures { result ≡ is_usable self }
     {
-        match self {
-            Slot::Waiting | Slot::Bound(_) => true,
-            Slot::GivenUp => false,
-        }
+        matches!(self, Slot::Waiting | Slot::Bound(_))
     }
 }

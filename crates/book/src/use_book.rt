@@ -1,13 +1,50 @@
-ghost use Rattle.std.specs.Prelude.{◌≤◌, vec_len, vec_capacity};
-
-pub mod calls;
+ghost use Rattle.std.specs.Prelude.{◌≡◌, List, [], ◌∷◌, ◌++◌, MatchResult};
+ghost use Rattle.refusal.specs.Refusals.{first_refusal, answered, unless};
+ghost use Rattle.book.specs.Books.{no_more_uses, record_checks};
+ghost use Rattle.book.specs.Listed.{uses_in};
 
 use crate::target::Use;
+use bounded::Bounded;
+use refusal::Reason;
+use std::alloc::Global;
 
-/// The fields to fill, in the order recorded; at most 1,024. The memory is taken when the book is made.
+/// How many uses a book has room for.
+pub const MOST_USES: usize = 1024;
+
+/// The fields to fill, in the order recorded. The memory is taken when the book is made.
 #[derive(Drop)]
 pub struct UseBook {
-    uses: Vec<Use>,
-    ghost room: { 1024 ≤ vec_capacity uses },
-    ghost few: { vec_len uses ≤ 1024 },
+    uses: Bounded<Use, MOST_USES>,
+}
+
+impl UseBook {
+    /// An empty book, or MEMORY.
+    pub fn new(heap: Global) -> Result<UseBook, Reason>
+        ensures { MatchResult result (λ b. uses_in b ≡ []) (λ e. e ≡ Reason.Memory) }
+    {
+        let uses = Bounded::new(heap)?;
+        Ok(UseBook { uses })
+    }
+
+    /// Whether no more uses can be recorded.
+    pub fn is_full(&self) -> bool
+        ensures { result ≡ no_more_uses (uses_in self.now) }
+    {
+        self.uses.is_full()
+    }
+
+    /// Records one more use.
+    pub fn record_use(&mut self, field: Use) -> Result<(), Reason>
+        ensures answers { result ≡ answered (first_refusal (record_checks (uses_in self.old))) tt }
+        ensures leaves { uses_in self.new ≡ unless (first_refusal (record_checks (uses_in self.old))) (uses_in self.old ++ field ∷ []) (uses_in self.old) }
+    {
+        self.uses.push(field)
+    }
+
+    /// The uses, in the order recorded.
+    pub fn as_slice(&self) -> &[Use]
+        ensures { result.now ≡ uses_in self.now }
+    {
+        self.uses.as_slice()
+    }
 }

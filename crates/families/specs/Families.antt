@@ -1,8 +1,8 @@
 -- The label family and the relocation family are lawful, and serve a section.
 use Rattle.std.specs.Prelude.{◌≡◌, ℕ, Bool, true, false, cond, pos, neg_ℤ, Some, None, ◌==◌, refl}
 use Rattle.std.proofs.Common.{sym, subst, arith}
-use Rattle.field.specs.Family.{FieldInfo, Lawful, serves, two_kinds, label_table, relocation_table, label_family, relocation_family}
-use Rattle.field.proofs.Laws.{Fits, never_none, same_some, overwriting}
+use Rattle.field.specs.Family.{FieldInfo, Fits, Lawful, serves, two_kinds, label_table, relocation_table, label_family, relocation_family}
+use Rattle.field.proofs.Laws.{never_none, same_some, overwriting}
 
 two_fit : (a : ℕ) (short long : FieldInfo) → Fits a short → Fits a long → (k : ℕ) (i : FieldInfo) → two_kinds short long k ≡ Some i → Fits a i
 two_fit a short long f g k i e = go (k == 1) (k == 2) e

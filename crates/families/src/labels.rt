@@ -1,10 +1,10 @@
+ghost use Rattle.std.specs.Prelude.{pos};
 ghost use Rattle.field.specs.Family.{label_family};
 ghost use Rattle.std.proofs.Common.{rules};
 ghost use Rattle.families.specs.Families.{label_lawful};
 
-use crate::bytes::{half_at, put_half, put_word, word_at};
-use field::distance::checked_distance;
 use field::family::{FieldPatch, FieldRead};
+use field::info::FieldInfo;
 use field::verdict::FieldRefusal;
 
 /// Branch fields: kind 1 is BranchRI, kind 2 BranchRIL.
@@ -13,69 +13,32 @@ pub struct Labels;
 impl FieldRead for Labels {
     ghost fields = { label_family.fields };
 
+    ghost ALIGN = { pos 2 };
+
     const ALIGN: i64 = 2;
 
     ghost lawful = { Prim.search rules };
 
-    fn step() -> i64 {
-        Self::ALIGN
-    }
+    ghost aligned = { Prim.search rules };
 
-    fn lead(kind: u8) -> Result<u8, FieldRefusal> {
-        match kind {
-            1 | 2 => Ok(0),
-            _ => Err(FieldRefusal::Kind),
-        }
-    }
-
-    fn size(kind: u8) -> Result<u8, FieldRefusal> {
-        match kind {
-            1 => Ok(4),
-            2 => Ok(6),
-            _ => Err(FieldRefusal::Kind),
-        }
-    }
-
-    fn field(kind: u8) -> Result<(u8, u8), FieldRefusal> {
-        match kind {
-            1 => Ok((2, 4)),
-            2 => Ok((2, 6)),
-            _ => Err(FieldRefusal::Kind),
-        }
-    }
-
-    fn least(kind: u8) -> Result<i64, FieldRefusal> {
-        match kind {
-            1 => Ok(-65_536),
-            2 => Ok(-4_294_967_295),
-            _ => Err(FieldRefusal::Kind),
-        }
-    }
-
-    fn greatest(kind: u8) -> Result<i64, FieldRefusal> {
-        match kind {
-            1 => Ok(65_534),
-            2 => Ok(4_294_967_294),
-            _ => Err(FieldRefusal::Kind),
-        }
+    fn info(kind: u8) -> Result<FieldInfo, FieldRefusal> {
+        let (size, least, greatest) = match kind {
+            1 => (4, -65_536, 65_534),
+            2 => (6, -4_294_967_295, 4_294_967_294),
+            _ => return Err(FieldRefusal::Kind),
+        };
+        Ok(FieldInfo {
+            lead: 0,
+            size,
+            first: 2,
+            past: size,
+            least,
+            greatest,
+        })
     }
 
     fn held(kind: u8, bytes: &[u8]) -> Result<i64, FieldRefusal> {
-        match kind {
-            1 => {
-                if bytes.len() < 4 {
-                    return Err(FieldRefusal::Kind);
-                }
-                Ok(half_at(bytes, 2))
-            }
-            2 => {
-                if bytes.len() < 6 {
-                    return Err(FieldRefusal::Kind);
-                }
-                Ok(word_at(bytes, 2))
-            }
-            _ => Err(FieldRefusal::Kind),
-        }
+        Self::info(kind)?.held(Self::ALIGN, bytes)
     }
 }
 
@@ -85,12 +48,6 @@ impl FieldPatch for Labels {
     ghost patches = { label_lawful };
 
     fn patch(kind: u8, bytes: &mut [u8], distance: i64) -> Result<(), FieldRefusal> {
-        let _ = checked_distance::<Self>(kind, bytes.len(), distance as i128)?;
-        match kind {
-            1 => put_half(bytes, 2, distance),
-            2 => put_word(bytes, 2, distance),
-            _ => {}
-        }
-        Ok(())
+        Self::info(kind)?.overwrite(Self::ALIGN, bytes, distance)
     }
 }

@@ -7,7 +7,6 @@ ghost use Rattle.field.specs.Family.{BothFamiliesServe};
 
 use field::fit::serves_section;
 
-mod bytes;
 pub mod labels;
 pub mod relocations;
 

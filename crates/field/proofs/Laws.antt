@@ -8,8 +8,8 @@ use Rattle.refusal.specs.Refusals.{answered, unless}
 use Rattle.refusal.specs.Numbers.{signed, wrap, big_endian, bytes_of_number}
 use Rattle.field.specs.declared.verdict.FieldRefusal.{FieldRefusal}
 use Rattle.field.specs.declared.verdict.FieldRefusal.TheVariants.{Kind, Far, Odd}
-use Rattle.field.specs.Family.{◌when◌, first_refused, FieldInfo, family, field_bytes, field_value, held, held_by, multiple, refuses, refuses_by, Shape, Patches, Lawful, overwritten}
-use Rattle.field.proofs.Numbers.{held_back}
+use Rattle.field.specs.Family.{◌when◌, first_refused, FieldInfo, family, field_bytes, field_value, held, held_by, multiple, refuses, refuses_by, Fits, Patches, Lawful, overwritten}
+use Rattle.field.proofs.Numbers.{number_length, held_back}
 
 pub never_none : {X P : Type 0} (x : X) → ◌≡◌ {A = Option X} (Some x) None → P
 never_none x h = let z : ◌≡◌ {A = ℕ} 0 1 = cc in absurd (omega arith)
@@ -46,20 +46,9 @@ near (negsuc k) greatest (negsuc n) h p q l u = let e = ltb-false k n l in omega
 near least (negsuc g) (pos n) h p q l u = absurd (both_ways true u refl)
 near (pos k) greatest (negsuc n) h p q l u = absurd (both_ways true l refl)
 
-number_length : (n v : ℕ) → length (bytes_of_number n v) ≡ n
-number_length zero v = refl
-number_length (suc n) v = ap suc (number_length n v)
-
 number_bytes : (n v : ℕ) → AllByRecursion (λ b. b < 256) (bytes_of_number n v)
 number_bytes zero v = tt
 number_bytes (suc n) v = (omega arith, number_bytes n v)
-
--- a kind whose field is wide enough for its range
-pub record Fits (a : ℕ) (i : FieldInfo) : Type 0 where
-  pub shape : Shape i
-  pub some : i.first < i.past
-  pub low : mag i.least < 2 ^ (8 * (i.past - i.first) - 1) * a
-  pub high : mag i.greatest < 2 ^ (8 * (i.past - i.first) - 1) * a
 
 -- what overwriting a field does, whatever was in it
 record Over (a : ℕ) (i : FieldInfo) (d : ℤ) (old new : List ℕ) : Type 0 where
@@ -121,7 +110,7 @@ overwrites a i d bytes one fit k ok =
     }
 
 -- A family reads back what overwriting has left.
-overwritten_held : (a : ℕ) (i : FieldInfo) (d : ℤ) (bytes : List ℕ) → 1 ≤ a → Fits a i → Accepted a i (length bytes) d → held_by a (Some i) (overwritten a (Some i) bytes d) ≡ Ok d
+pub overwritten_held : (a : ℕ) (i : FieldInfo) (d : ℤ) (bytes : List ℕ) → 1 ≤ a → Fits a i → Accepted a i (length bytes) d → held_by a (Some i) (overwritten a (Some i) bytes d) ≡ Ok d
 overwritten_held a i d bytes one fit ok =
     let o = over a i d bytes one fit ok in
     let e = o.same_length in

@@ -1,3 +1,5 @@
 pub mod Numbers
+pub mod Wide
 pub mod Laws
 pub mod InRange
+pub mod Field

@@ -1,5 +1,5 @@
 -- A distance in units, cut to its bytes and read back, for any number of bytes and any unit.
-use Rattle.std.proofs.Common.{◌≡◌, ℕ, zero, suc, ◌+◌, ◌-◌, ◌*◌, ◌/◌, ◌%◌, ◌^◌, ◌<◌, ◌≤◌, true, false, ltb, ℤ, pos, negsuc, ◌*ℤ◌, neg_ℤ, sym, refl, ap, ◌∙◌, subst, add_assoc, mod-lt, mod-eq_of_lt, mul_assoc, suc-mul, mul_comm, div-lt_iff_lt-mul, add-mul, pow-suc, div-add-mod', arith, pow_pos, pow-add}
+use Rattle.std.proofs.Common.{◌≡◌, ℕ, zero, suc, ◌+◌, ◌-◌, ◌*◌, ◌/◌, ◌%◌, ◌^◌, ◌<◌, ◌≤◌, true, false, ltb, length, ℤ, pos, negsuc, ◌*ℤ◌, neg_ℤ, sym, refl, ap, ◌∙◌, subst, add_assoc, mod-lt, mod-eq_of_lt, mul_assoc, suc-mul, mul_comm, div-lt_iff_lt-mul, add-mul, pow-suc, div-add-mod', arith, pow_pos, pow-add}
 use native.Mathlib.Nat.{pow-succ'}
 use lib.Arith.{mod-mul, digits_div}
 use lib.Signed.{mag, shr_z}
@@ -16,8 +16,12 @@ pub pow_bytes : (n : ℕ) → 256 ^ n ≡ 2 ^ (8 * n)
 pow_bytes zero = refl
 pow_bytes (suc n) = pow-suc 256 n ∙ ap (λ (x : ℕ). x * 256) (pow_bytes n) ∙ sym (ap (λ (k : ℕ). 2 ^ k) (eight n) ∙ pow-add 2 (8 * n) 8)
 
-pow_256 : (n : ℕ) → 0 < 256 ^ n
+pub pow_256 : (n : ℕ) → 0 < 256 ^ n
 pow_256 n = subst (λ (x : ℕ). 0 < x) (sym (pow_bytes n)) (pow_pos (8 * n))
+
+pub number_length : (n v : ℕ) → length (bytes_of_number n v) ≡ n
+number_length zero v = refl
+number_length (suc n) v = ap suc (number_length n v)
 
 read_on : (n acc v : ℕ) → big_endian acc (bytes_of_number n v) ≡ acc * 256 ^ n + v % 256 ^ n
 read_on zero acc v = omega arith
@@ -53,7 +57,7 @@ signed_at h (negsuc n) b e f l =
     let t : ltb (2 ^ b - suc n) (2 ^ (b - 1)) ≡ false = le-ltb (2 ^ b - suc n) (2 ^ (b - 1)) (omega arith) in
     rw (w, t) (ap negsuc (omega arith))
 
-doubled : (b : ℕ) → 0 < b → 2 ^ b ≡ 2 ^ (b - 1) + 2 ^ (b - 1)
+pub doubled : (b : ℕ) → 0 < b → 2 ^ b ≡ 2 ^ (b - 1) + 2 ^ (b - 1)
 doubled b h =
     let e : b ≡ suc (b - 1) = omega arith in
     ap (λ (k : ℕ). 2 ^ k) e ∙ pow-suc 2 (b - 1) ∙ (let p : ℕ = 2 ^ (b - 1) in let q : p * 2 ≡ p + p = omega arith in q)
@@ -64,7 +68,7 @@ signed_wrap b z h l = signed_at (2 ^ (b - 1)) z b (doubled b h) refl l
 -- Units.
 
 -- the greatest number below a multiple of a
-below_multiple : (a q n : ℕ) → 1 ≤ a → q * a ≡ suc n → a * suc (n / a) ≡ suc n
+pub below_multiple : (a q n : ℕ) → 1 ≤ a → q * a ≡ suc n → a * suc (n / a) ≡ suc n
 below_multiple a zero n h s = let z : 0 * a ≡ 0 = omega arith in absurd (omega arith)
 below_multiple a (suc q) n h s =
     let t : suc q * a ≡ q * a + a = suc-mul q a in

@@ -1,12 +1,13 @@
 -- Families of fields that hold a distance. A family has numbered kinds of fields; it reads and writes the field in bytes that it is given.
-use Rattle.std.specs.Prelude.{◌≡◌, ℕ, ◌+◌, ◌-◌, ◌*◌, ◌%◌, ◌<◌, ◌≤◌, Bool, true, false, cond, not, ◌&&◌, ◌||◌, ltb, List, [], ◌∷◌, ◌++◌, length, take, drop, ℤ, pos, ◌*ℤ◌, neg_ℤ, Some, None, Ok, Err, Option, Result, ◌==◌, int_le, int_lt, nat_lt, unsigned_abs}
-use Rattle.std.specs.Int.Signed.{shr_z}
+use Rattle.std.specs.Prelude.{◌≡◌, ℕ, ◌+◌, ◌-◌, ◌*◌, ◌%◌, ◌^◌, ◌<◌, ◌≤◌, Bool, true, false, cond, not, ◌&&◌, ◌||◌, ltb, List, [], ◌∷◌, ◌++◌, length, take, drop, ℤ, pos, ◌*ℤ◌, neg_ℤ, Some, None, Ok, Err, Option, Result, ◌==◌, int_le, int_lt, nat_lt, unsigned_abs}
+use Rattle.std.specs.Int.Signed.{mag, shr_z}
 use Rattle.std.specs.List.{AllByRecursion}
 use Rattle.refusal.specs.declared.Reason.{Reason}
 use Rattle.refusal.specs.declared.Reason.TheVariants as why
 use Rattle.refusal.specs.declared.Refusal.{Refusal}
 use Rattle.refusal.specs.Refusals.{distance_refused_at, unless}
 use Rattle.refusal.specs.Numbers.{signed, wrap, big_endian, bytes_of_number}
+use Rattle.field.specs.declared.info.FieldInfo as info
 use Rattle.field.specs.declared.verdict.FieldRefusal.{FieldRefusal}
 use Rattle.field.specs.declared.verdict.FieldRefusal.TheVariants.{Kind, Far, Odd}
 
@@ -29,14 +30,9 @@ abbrev pub first_refused : List (FieldRefusal × Bool) → Option FieldRefusal
 first_refused [] = None
 first_refused (t ∷ ts) = cond t.1 (Some t.0) (first_refused ts)
 
--- what a family tells of one kind
-pub record FieldInfo : Type 0 where
-  pub lead : ℕ  -- bytes from the instruction's start to the family's bytes
-  pub size : ℕ  -- how many bytes those are
-  pub first : ℕ  -- the field among them: from this byte
-  pub past : ℕ  -- up to, and without, this one
-  pub least : ℤ  -- the least distance
-  pub greatest : ℤ  -- and the greatest
+-- what a family tells of one kind: where its bytes lie, where the field lies among them, and the least and the greatest distance
+abbrev pub FieldInfo : Type 0
+FieldInfo = info.FieldInfo
 
 -- what the reading interface tells
 pub record Fields : Type 0 where
@@ -105,6 +101,14 @@ pub record Shape (i : FieldInfo) : Type 0 where
   pub lead_small : i.lead ≤ 16
   pub size_small : i.size ≤ 16
   pub inside : i.past ≤ i.size
+
+-- a kind whose field is wide enough for its range; the numbers that the field can hold, in units of a, are of 64 bits
+pub record Fits (a : ℕ) (i : FieldInfo) : Type 0 where
+  pub shape : Shape i
+  pub some : i.first < i.past
+  pub low : mag i.least < 2 ^ (8 * (i.past - i.first) - 1) * a
+  pub high : mag i.greatest < 2 ^ (8 * (i.past - i.first) - 1) * a
+  pub narrow : 2 ^ (8 * (i.past - i.first) - 1) * a ≤ 2 ^ 63
 
 -- What an accepted patch of bytes does: it leaves bytes, as many as there were, and the same ones outside the field; a field that was zero
 -- then holds the distance. Of a field that was not zero, and of numbers that are no bytes, no more is said.

@@ -2,44 +2,64 @@ ghost use Rattle.std.specs.Prelude.{◌≡◌, ℕ, List, length, ℤ, pos, Ok};
 ghost use Rattle.refusal.specs.Refusals.{answered};
 ghost use Rattle.field.specs.Family.{Fields, LawfulFields, Lawful, family, told, held as heldIn, ZeroField, refuses, after_patch};
 
+use crate::info::FieldInfo;
 use crate::verdict::FieldRefusal;
 
 /// What a family of fields tells. The bytes that it is given are its own: `size` of them, from `lead` bytes into the instruction on.
 pub trait FieldRead {
     ghost fields: { Fields };
 
+    ghost ALIGN: { ℤ };
+
     /// The distances that a field holds are the multiples of it.
     const ALIGN: i64;
 
-    /// `ALIGN`, tied to the ghost member: the body is `Self::ALIGN`.
-    fn step() -> i64
-        ensures { result ≡ pos fields.align };
+    /// All that the family tells of a kind.
+    fn info(kind: u8) -> Result<FieldInfo, FieldRefusal>
+        ensures { result ≡ told (λ i. i) (fields.table kind) };
 
     /// Bytes from the instruction's start to the family's bytes; at most 16.
     fn lead(kind: u8) -> Result<u8, FieldRefusal>
-        ensures { result ≡ told (λ i. i.lead) (fields.table kind) };
+        ensures { result ≡ told (λ i. i.lead) (fields.table kind) }
+    {
+        Self::info(kind).map(|info| info.lead)
+    }
 
     /// How many bytes the family wants; at most 16.
     fn size(kind: u8) -> Result<u8, FieldRefusal>
-        ensures { result ≡ told (λ i. i.size) (fields.table kind) };
+        ensures { result ≡ told (λ i. i.size) (fields.table kind) }
+    {
+        Self::info(kind).map(|info| info.size)
+    }
 
     /// The field among them: its first byte, and the first one past it.
     fn field(kind: u8) -> Result<(u8, u8), FieldRefusal>
-        ensures { result ≡ told (λ i. (i.first, i.past)) (fields.table kind) };
+        ensures { result ≡ told (λ i. (i.first, i.past)) (fields.table kind) }
+    {
+        Self::info(kind).map(|info| (info.first, info.past))
+    }
 
     /// The least distance.
     fn least(kind: u8) -> Result<i64, FieldRefusal>
-        ensures { result ≡ told (λ i. i.least) (fields.table kind) };
+        ensures { result ≡ told (λ i. i.least) (fields.table kind) }
+    {
+        Self::info(kind).map(|info| info.least)
+    }
 
     /// The greatest distance.
     fn greatest(kind: u8) -> Result<i64, FieldRefusal>
-        ensures { result ≡ told (λ i. i.greatest) (fields.table kind) };
+        ensures { result ≡ told (λ i. i.greatest) (fields.table kind) }
+    {
+        Self::info(kind).map(|info| info.greatest)
+    }
 
     /// The distance that the bytes hold: `ALIGN` times the field as a signed big-endian number.
     fn held(kind: u8, bytes: &[u8]) -> Result<i64, FieldRefusal>
         ensures { result ≡ heldIn fields kind bytes.now };
 
     ghost lawful: { LawfulFields fields };
+
+    ghost aligned: { ALIGN ≡ pos fields.align };
 }
 
 /// Adds the call that writes a distance.

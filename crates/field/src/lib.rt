@@ -2,7 +2,9 @@
 
 #![tactic(auto)]
 
+mod bytes;
 pub mod distance;
 pub mod family;
 pub mod fit;
+pub mod info;
 pub mod verdict;
