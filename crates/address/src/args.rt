@@ -140,17 +140,11 @@ impl MemArg {
         ensures { (C : Convention) (fr : Frame) → result ≡ flags_in (mode C fr self.now) }
     {
         match *self {
-            MemArg::BXD12 { flags, .. } => flags,
-            MemArg::BXD20 { flags, .. } => flags,
-            MemArg::RegOffset { flags, .. } => flags,
-            MemArg::Symbol { flags, .. } => flags,
-            MemArg::Label { .. }
-            | MemArg::Constant { .. }
-            | MemArg::InitialSPOffset { .. }
-            | MemArg::IncomingArgOffset { .. }
-            | MemArg::OutgoingArgOffset { .. }
-            | MemArg::SlotOffset { .. }
-            | MemArg::SpillOffset { .. } => MachMemFlags::trusted(),
+            MemArg::BXD12 { flags, .. }
+            | MemArg::BXD20 { flags, .. }
+            | MemArg::Symbol { flags, .. }
+            | MemArg::RegOffset { flags, .. } => flags,
+            _ => MachMemFlags::trusted(),
         }
     }
 
@@ -159,8 +153,9 @@ impl MemArg {
         ensures { result ≡ registers_fit self.now }
     {
         match *self {
-            MemArg::BXD12 { base, index, .. } => is_gpr(base) && is_gpr(index),
-            MemArg::BXD20 { base, index, .. } => is_gpr(base) && is_gpr(index),
+            MemArg::BXD12 { base, index, .. } | MemArg::BXD20 { base, index, .. } => {
+                is_gpr(base) && is_gpr(index)
+            }
             MemArg::RegOffset { reg, .. } => is_gpr(reg),
             _ => true,
         }
