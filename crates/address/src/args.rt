@@ -108,12 +108,7 @@ impl MemArg {
     pub fn reg(reg: Reg, flags: MachMemFlags) -> MemArg
         ensures { held result ≡ Some (bxd12 reg (int_reg zero_reg) (pos 0) flags) }
     {
-        MemArg::BXD12 {
-            base: reg,
-            index: zero_reg(),
-            disp: UImm12::zero(),
-            flags,
-        }
+        MemArg::reg_plus_reg(reg, zero_reg(), flags)
     }
 
     /// Memory reference using the sum of two registers as an address.
