@@ -1,5 +1,6 @@
 -- Lemmas on planning an access.
 use Rattle.std.proofs.Common.{◌≡◌, ℕ, Bool, true, false, cond, not, ◌||◌, List, [], ◌∷◌, ◌++◌, pos, Some, None, Ok, Err, Option, sym, refl, ap, ◌∙◌, subst, append-nil, arith}
+use Rattle.std.specs.Option.{MatchOption}
 use Rattle.refusal.specs.declared.Reason.{Reason}
 use Rattle.refusal.specs.declared.Reason.TheVariants as why
 use Rattle.refusal.specs.Refusals.{first_refusal, answered, when_some, ◌when◌}
@@ -19,7 +20,7 @@ use Rattle.address_law.specs.Reaching.{Reaching}
 use Rattle.address_law.proofs.Basics.{none_refused}
 use Rattle.address_law.proofs.Reaching.{accesses_reach, one_access}
 use Rattle.finalize.specs.Steps.{first_in, steps_refusal, steps_answer}
-use Rattle.access.specs.Written.{stays_relative, access_at, first_at}
+use Rattle.access.specs.Written.{stays_relative, access_at, helper_at, first_at}
 use Rattle.finalize.proofs.Finalizing.{answered_ok, answered_err, or_else, refusal_append, displaced_widened, both_some}
 
 -- An address stays relative.
@@ -65,6 +66,14 @@ relative_left mi fr m =
     ap not (displaced_widened mi (loaded standard mi r.0 r.1).1 ∙ displaced_loaded mi r.0 r.1 ∙ resolved_displaced mi (mode standard fr m)) ∙ not_not (stays_relative mi (mode standard fr m))
 
 -- What is written for helpers.
+
+pub helped : (Q : args.Helper → Type 0) (o : Option args.Helper) (r : Option Aimed) → MatchOption o (r ≡ None) Q → ((h : args.Helper) → Q h → listed r ≡ helper_at (helper_of h)) → listed r ≡ first_at (first_in o)
+helped Q None r m k = rw m
+helped Q (Some h) r m k = k h m ∙ one (helper_of h)
+  where
+    one : (o : Option Helper) → helper_at o ≡ first_at (when_some (λ k. Some k) o)
+    one None = refl
+    one (Some k) = refl
 
 helpers_written : (f s : Option args.Helper) (hs : Helpers) → helpers_in f s ≡ Some hs → first_at (first_in f) ++ first_at (first_in s) ≡ helper_instrs (list_of hs)
 helpers_written None None hs e = let p : no_helper ≡ hs = cc in rw (sym p)

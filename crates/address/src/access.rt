@@ -1,9 +1,10 @@
-ghost use Rattle.std.specs.Prelude.{◌≡◌, ◌≤◌};
+ghost use Rattle.std.specs.Prelude.{◌≡◌};
 ghost use Rattle.address.specs.Aimed.{size_of_all};
 ghost use Rattle.address.specs.Access.{permitted, opcodes, entry_for};
 ghost use Rattle.address.specs.Held.{listed, all_listed, items_of};
 
-use crate::args::MemInstType;
+use crate::args::{MemArg, MemInstType};
+use crate::frame::Frame;
 use book::target::Target;
 use form::Form;
 use form::instr::{Entry, Instr};
@@ -45,14 +46,29 @@ pub enum Access {
     },
 }
 
+/// An access to memory: the instruction, whether it may trap, the address, and the frame that it is counted in.
+#[derive(Clone, Copy, PartialEq, Eq, Debug)]
+pub struct MemAccess<'a> {
+    pub access: Access,
+    pub may_trap: bool,
+    pub mem: MemArg,
+    pub frame: &'a Frame,
+}
+
+// What an instruction has besides the addressing that is named at it.
+const NO_ADDRESSING: MemInstType = MemInstType {
+    have_d12: false,
+    have_d20: false,
+    have_pcrel: false,
+    have_unaligned_pcrel: false,
+    have_index: false,
+};
+
 // An opcode that was given, under its form.
 fn entry_for(form: Form, opcode: Option<u16>) -> Option<Entry>
     ensures { listed result ≡ entry_for form opcode }
 {
-    match opcode {
-        Some(opcode) => Some(Entry { form, opcode }),
-        None => None,
-    }
+    opcode.map(|opcode| Entry::new(form, opcode))
 }
 
 impl Access {
@@ -71,30 +87,21 @@ impl Access {
             Access::MemRs { rs, rsy, .. } => MemInstType {
                 have_d12: rs.is_some(),
                 have_d20: rsy.is_some(),
-                have_pcrel: false,
-                have_unaligned_pcrel: false,
-                have_index: false,
+                ..NO_ADDRESSING
             },
             Access::MemImm8 { .. } => MemInstType {
                 have_d12: true,
                 have_d20: true,
-                have_pcrel: false,
-                have_unaligned_pcrel: false,
-                have_index: false,
+                ..NO_ADDRESSING
             },
             Access::MemImm16 { .. } => MemInstType {
                 have_d12: true,
-                have_d20: false,
-                have_pcrel: false,
-                have_unaligned_pcrel: false,
-                have_index: false,
+                ..NO_ADDRESSING
             },
             Access::MemVrx { .. } => MemInstType {
                 have_d12: true,
-                have_d20: false,
-                have_pcrel: false,
-                have_unaligned_pcrel: false,
                 have_index: true,
+                ..NO_ADDRESSING
             },
         }
     }
@@ -140,13 +147,9 @@ pub struct AccessPlan {
 
 // How many bytes an instruction has, if there is one.
 fn size_of(item: Option<Aimed>) -> usize
-    ensures is { result ≡ size_of_all (listed item) }
-    ensures small { result ≤ 6 }
+    ensures { result ≡ size_of_all (listed item) }
 {
-    match item {
-        Some(item) => item.instr.form.size(),
-        None => 0,
-    }
+    item.map_or(0, |item| item.instr.form.size())
 }
 
 impl AccessPlan {

@@ -108,12 +108,7 @@ impl MemArg {
     pub fn reg(reg: Reg, flags: MachMemFlags) -> MemArg
         ensures { held result ≡ Some (bxd12 reg (int_reg zero_reg) (pos 0) flags) }
     {
-        MemArg::BXD12 {
-            base: reg,
-            index: zero_reg(),
-            disp: UImm12::zero(),
-            flags,
-        }
+        MemArg::reg_plus_reg(reg, zero_reg(), flags)
     }
 
     /// Memory reference using the sum of two registers as an address.
@@ -140,17 +135,11 @@ impl MemArg {
         ensures { (C : Convention) (fr : Frame) → result ≡ flags_in (mode C fr self.now) }
     {
         match *self {
-            MemArg::BXD12 { flags, .. } => flags,
-            MemArg::BXD20 { flags, .. } => flags,
-            MemArg::RegOffset { flags, .. } => flags,
-            MemArg::Symbol { flags, .. } => flags,
-            MemArg::Label { .. }
-            | MemArg::Constant { .. }
-            | MemArg::InitialSPOffset { .. }
-            | MemArg::IncomingArgOffset { .. }
-            | MemArg::OutgoingArgOffset { .. }
-            | MemArg::SlotOffset { .. }
-            | MemArg::SpillOffset { .. } => MachMemFlags::trusted(),
+            MemArg::BXD12 { flags, .. }
+            | MemArg::BXD20 { flags, .. }
+            | MemArg::Symbol { flags, .. }
+            | MemArg::RegOffset { flags, .. } => flags,
+            _ => MachMemFlags::trusted(),
         }
     }
 
@@ -159,8 +148,9 @@ impl MemArg {
         ensures { result ≡ registers_fit self.now }
     {
         match *self {
-            MemArg::BXD12 { base, index, .. } => is_gpr(base) && is_gpr(index),
-            MemArg::BXD20 { base, index, .. } => is_gpr(base) && is_gpr(index),
+            MemArg::BXD12 { base, index, .. } | MemArg::BXD20 { base, index, .. } => {
+                is_gpr(base) && is_gpr(index)
+            }
             MemArg::RegOffset { reg, .. } => is_gpr(reg),
             _ => true,
         }

@@ -1,7 +1,7 @@
 ghost use Rattle.std.specs.Prelude.{◌≡◌};
 ghost use Rattle.address.specs.Convention.{zero_reg, int_reg, standard};
 
-use operand::reg::{Reg, RegClass};
+use operand::reg::{Reg, gpr};
 
 /// The stack's register.
 pub const STACK: u8 = 15;
@@ -16,28 +16,19 @@ pub const REG_SAVE_AREA_SIZE: u32 = 160;
 pub fn zero_reg() -> Reg
     ensures { result ≡ int_reg zero_reg }
 {
-    Reg {
-        class: RegClass::Int,
-        number: 0,
-    }
+    gpr(0)
 }
 
 /// The register that helpers set. An access that needs one overwrites it.
 pub fn writable_spilltmp_reg() -> Reg
     ensures { result ≡ int_reg standard.temporary }
 {
-    Reg {
-        class: RegClass::Int,
-        number: TEMPORARY,
-    }
+    gpr(TEMPORARY)
 }
 
 /// The register that offsets in the frame are counted from.
 pub fn stack_reg() -> Reg
     ensures { result ≡ int_reg standard.stack }
 {
-    Reg {
-        class: RegClass::Int,
-        number: STACK,
-    }
+    gpr(STACK)
 }

@@ -1,13 +1,14 @@
 -- Lemmas on finalizing.
-use Rattle.std.proofs.Common.{◌≡◌, ℕ, ◌^◌, ◌<◌, Bool, true, false, cond, leb, List, [], ◌∷◌, ◌++◌, ℤ, pos, Some, None, Ok, Err, Option, Result, sym, refl, ap, ◌∙◌, arith, w64, SFits}
+use Rattle.std.proofs.Common.{◌≡◌, ℕ, ◌^◌, ◌<◌, Bool, true, false, cond, leb, List, [], ◌∷◌, ◌++◌, ℤ, pos, Some, None, Ok, Err, Option, Result, refl, ap, ◌∙◌, arith, w64, SFits}
 use Rattle.std.proofs.lemmas.Int.{ints}
 use Rattle.std.proofs.lemmas.Bool.Decides.{nat_tests}
 use Rattle.std.specs.Option.{SomeIff}
+use Rattle.std.specs.Result.{MatchResult, IfOk, IsErrAnd}
+use Rattle.std.proofs.lemmas.Result.{err_from_is_err_and}
 use Rattle.refusal.specs.declared.Reason.{Reason}
 use Rattle.refusal.specs.Numbers.{within, twos}
 use Rattle.refusal.specs.declared.Refusal.{Refusal}
-use Rattle.refusal.specs.declared.Placed.{Placed}
-use Rattle.refusal.specs.Refusals.{first_refusal, answered, when_some, refused_at, placed}
+use Rattle.refusal.specs.Refusals.{first_refusal, answered, when_some, refused_at, answer}
 use Rattle.operand.specs.declared.reg.Reg.{Reg}
 use Rattle.address.specs.declared.args.MachMemFlags.{MachMemFlags}
 use Rattle.address.specs.declared.args.MemArg.{MemArg}
@@ -193,27 +194,29 @@ module _ (C : Convention) (mi : MemInstType) (fr : frame.Frame) (m : MemArg) (fi
 
 -- An answer with its place.
 
-pub placed_ok : {X E : Type 0} (at : ℕ) (r : Result X E) (x : X) → Ok x ≡ placed at r → r ≡ Ok x
-placed_ok at (Ok y) x h = cc
-placed_ok at (Err e) x h = let z : ◌≡◌ {A = ℕ} 0 1 = cc in absurd (omega arith)
+abbrev pub placed : {X : Type 0} → Result X Reason → Result X Refusal
+placed (Ok x) = Ok x
+placed (Err e) = Err (refused_at 0 e)
 
-pub placed_err : {X E : Type 0} (at : ℕ) (r : Result X E) (q : Placed E) → Err q ≡ placed at r → (r ≡ Err q.cause) × (q.place ≡ at)
-placed_err at (Ok y) q h = let z : ◌≡◌ {A = ℕ} 0 1 = cc in absurd (omega arith)
-placed_err at (Err e) q h = let p : q ≡ record { place = at; cause = e } = cc in (ap {B = Result _ _} (λ k. Err k.cause) (sym p), ap (λ k. k.place) p)
+pub placed_by : {X : Type 0} (P : Reason → Refusal → Type 0) (r : Result X Reason) (out : Result X Refusal) → ((e : Reason) (q : Refusal) → P e q → q ≡ refused_at 0 e)
+    → MatchResult r (λ x. out ≡ Ok x) (λ e. IsErrAnd out (P e)) → out ≡ placed r
+placed_by P (Ok x) out k h = h
+placed_by P (Err e) out k h = let p = err_from_is_err_and out h in p.1 ∙ ap Err (k e p.0 p.2)
 
-module _ (mi : MemInstType) (fr : frame.Frame) (m : MemArg) (r : Result (pair.Helpers × MemArg) Reason) (h : when_ok answer_in r ≡ answered (finalize_refusal standard mi fr m) (Some (finalize standard mi fr m))) where
-  pub answer_ok : (x : pair.Helpers × MemArg) → Ok x ≡ placed 0 r → Ok (answer_in x) ≡ when_ok (λ y. Some y) (finalize_answer standard mi fr m)
-  answer_ok x k =
-      let p = answered_ok (finalize_refusal standard mi fr m) _ _ (ap (when_ok answer_in) (sym (placed_ok 0 r x k)) ∙ h) in
-      rw (p.0, p.1)
+placed_answer : {X Y : Type 0} (f : X → Option Y) (p : Option Reason) (y : Y) (r : Result X Reason) → when_ok f r ≡ answered p (Some y) → when_ok f (placed r) ≡ when_ok (λ y. Some y) (answer 0 p y)
+placed_answer f None y (Ok x) h = cc
+placed_answer f None y (Err e) h = let z : ◌≡◌ {A = ℕ} 0 1 = cc in absurd (omega arith)
+placed_answer f (Some q) y (Ok x) h = let z : ◌≡◌ {A = ℕ} 0 1 = cc in absurd (omega arith)
+placed_answer f (Some q) y (Err e) h = let s : e ≡ q = cc in rw s
 
-  pub answer_stands : (x : pair.Helpers × MemArg) → Ok x ≡ placed 0 r → Stands standard mi (mode standard fr m) x
-  answer_stands x k =
-      let p = answered_ok (finalize_refusal standard mi fr m) _ _ (ap (when_ok answer_in) (sym (placed_ok 0 r x k)) ∙ h) in
+module _ (mi : MemInstType) (fr : frame.Frame) (m : MemArg) where
+  pub answer_placed : (r : Result (pair.Helpers × MemArg) Reason) → when_ok answer_in r ≡ answered (finalize_refusal standard mi fr m) (Some (finalize standard mi fr m))
+      → when_ok answer_in (placed r) ≡ when_ok (λ y. Some y) (finalize_answer standard mi fr m)
+  answer_placed r h = placed_answer answer_in (finalize_refusal standard mi fr m) (finalize standard mi fr m) r h
+
+  pub answer_stands : (r : Result (pair.Helpers × MemArg) Reason) → when_ok answer_in r ≡ answered (finalize_refusal standard mi fr m) (Some (finalize standard mi fr m))
+      → IfOk (placed r) (λ p. Stands standard mi (mode standard fr m) p)
+  answer_stands (Ok x) h =
+      let p = answered_ok (finalize_refusal standard mi fr m) _ _ h in
       record { helpers = (finalize standard mi fr m).0; left = (finalize standard mi fr m).1; are = p.1; stands = finalizing_stands standard refl mi fr m p.0 }
-
-  pub answer_err : (q : Placed Reason) (e : Refusal) → Err q ≡ placed 0 r → e ≡ refused_at q.place q.cause → Err e ≡ when_ok (λ y. Some y) (finalize_answer standard mi fr m)
-  answer_err q e k d =
-      let p = placed_err 0 r q k in
-      let f = answered_err (finalize_refusal standard mi fr m) _ q.cause (ap (when_ok answer_in) (sym p.0) ∙ h) in
-      rw (f, d, p.1)
+  answer_stands (Err e) h = tt

@@ -55,6 +55,5 @@ pub fn finalize_in_window(
     ensures answer { when_ok answer_in result ≡ when_ok (λ x. Some x) (finalize_answer standard mi (with_outgoing frame.old outgoing_sp_offset) mem.now) }
 {
     let window = CallWindow::open(frame, outgoing_sp_offset);
-    let answer = mem_finalize(mem, window.frame(), mi)?;
-    Ok(answer)
+    mem_finalize(mem, window.frame(), mi)
 }

@@ -8,11 +8,11 @@ returns-in_err-first c =
     let p = err_from_is_err_and c.from_residual.result c.from_residual.ensures.1 in
     rw (p.1, p.2) (steps_first standard c.args.mi c.args.frame.now c.args.mem.now _ _ c.in_err-first.ensures)
 
-pub returns-in_err-mem : goal.returns-in_err-mem
-returns-in_err-mem c =
-    let p = err_from_is_err_and c.from_residual-in_err-mem.result c.from_residual-in_err-mem.ensures.1 in
-    rw (p.1, p.2) (steps_last standard c.args.mi c.args.frame.now c.args.mem.now c.in_ok-first.first c.in_ok-first.mem _ c.load-mem.result.0 _ _ c.in_ok-first.ensures c.load-mem.ensures c.in_err-mem.ensures)
+pub returns-in_err-widen : goal.returns-in_err-widen
+returns-in_err-widen c =
+    let p = err_from_is_err_and c.from_residual-in_err-widen.result c.from_residual-in_err-widen.ensures.1 in
+    rw (p.1, p.2) (steps_last standard c.args.mi c.args.frame.now c.args.mem.now c.in_ok-first.first c.in_ok-first.mem _ c.load-mem.result.0 _ _ c.in_ok-first.ensures c.load-mem.ensures c.in_err-widen.ensures)
 
 pub returns : goal.returns
 returns c =
-    steps_done standard c.args.mi c.args.frame.now c.args.mem.now c.in_ok-first.first c.in_ok-first.mem _ c.load-mem.result.0 _ c.in_ok-first.ensures c.load-mem.ensures c.in_ok-mem.ensures
+    steps_done standard c.args.mi c.args.frame.now c.args.mem.now c.in_ok-first.first c.in_ok-first.mem _ c.load-mem.result.0 _ c.in_ok-first.ensures c.load-mem.ensures c.in_ok-widen.ensures
