@@ -9,3 +9,16 @@ pub struct Frame {
     pub nominal_sp_offset: u32,
     pub outgoing_sp_offset: u32,
 }
+
+impl Frame {
+    /// A frame with nothing in it.
+    pub const EMPTY: Frame = Frame {
+        incoming_args_size: 0,
+        clobber_size: 0,
+        fixed_frame_storage_size: 0,
+        stackslots_size: 0,
+        outgoing_args_size: 0,
+        nominal_sp_offset: 0,
+        outgoing_sp_offset: 0,
+    };
+}

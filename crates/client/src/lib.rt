@@ -13,58 +13,66 @@ ghost use Rattle.section.specs.State.{state};
 ghost use Rattle.client.specs.Routine.{Opcodes, routine_bytes};
 ghost use Rattle.client.specs.Calls.{at_start, routine_events, routine_state};
 
-use address::access::Access;
+use address::access::{Access, MemAccess};
 use address::args::{MachMemFlags, MemArg};
 use address::frame::Frame;
 use catalogue::catalogue::Catalogue;
 use families::labels::Labels;
 use families::relocations::Relocations;
 use form::Form;
+use form::instr::{Entry, Instr};
 use operand::reg::{Reg, RegClass};
 use refusal::Refusal;
 use section::section::Section;
 use std::alloc::Global;
 
-const NO_FRAME: Frame = Frame {
-    incoming_args_size: 0,
-    clobber_size: 0,
-    fixed_frame_storage_size: 0,
-    stackslots_size: 0,
-    outgoing_args_size: 0,
-    nominal_sp_offset: 0,
-    outgoing_sp_offset: 0,
+const BRC: Entry = Entry {
+    form: Form::RiC,
+    opcode: 0xa74,
 };
 
-/// A catalogue with the routine's opcodes: BRC, LGRL and BCR.
+const LGRL: Entry = Entry {
+    form: Form::RilB,
+    opcode: 0xc48,
+};
+
+const BCR: Entry = Entry {
+    form: Form::Rr,
+    opcode: 0x07,
+};
+
+/// A catalogue with the routine's opcodes.
 fn opcodes(heap: Global) -> Result<Catalogue, Refusal>
     ensures { Opcodes result }
 {
     let mut catalogue = Catalogue::new(heap)?;
-    catalogue.admit(Form::RiC, 0xa74)?;
-    catalogue.admit(Form::RilB, 0xc48)?;
-    catalogue.admit(Form::Rr, 0x07)?;
+    catalogue.admit(BRC)?;
+    catalogue.admit(LGRL)?;
+    catalogue.admit(BCR)?;
     Ok(catalogue)
 }
 
-/// LGRL to register 2.
-const LOAD: Access = Access::Mem {
-    rd: Reg {
-        class: RegClass::Int,
-        number: 2,
+/// LGRL to register 2, of the second doubleword of the table, which is symbol 0.
+const LOAD: MemAccess<'static> = MemAccess {
+    access: Access::Mem {
+        rd: Reg {
+            class: RegClass::Int,
+            number: 2,
+        },
+        rx: None,
+        rxy: None,
+        ril: Some(0xc48),
     },
-    rx: None,
-    rxy: None,
-    ril: Some(0xc48),
-};
-
-/// The second doubleword of the table, which is symbol 0.
-const WORD: MemArg = MemArg::Symbol {
-    name: 0,
-    offset: 8,
-    flags: MachMemFlags {
-        aligned: true,
-        trap: 0,
+    may_trap: false,
+    mem: MemArg::Symbol {
+        name: 0,
+        offset: 8,
+        flags: MachMemFlags {
+            aligned: true,
+            trap: 0,
+        },
     },
+    frame: &Frame::EMPTY,
 };
 
 type Code = Section<Labels, Relocations>;
@@ -78,15 +86,15 @@ fn emit(section: &mut Code, catalogue: &Catalogue, code: &mut [u8]) -> Result<()
 {
     let promise = section.reserve(code)?;
     let label = promise.label();
-    let branch = section.put_to_label(catalogue, code, Form::RiC, 0xa74, 8, label);
-    let loaded = section.access(catalogue, code, &LOAD, false, &WORD, &NO_FRAME);
+    let branch = section.put_to_label(catalogue, code, BRC, 8, label);
+    let loaded = section.access(catalogue, code, &LOAD);
     match section.bind(code, promise) {
         Ok(()) => {}
         Err(_) => unreachable(),
     }
     branch?;
     loaded?;
-    section.put(catalogue, code, Form::Rr, 0x07, &[15, 14, 0, 0, 0, 0])
+    section.put(catalogue, code, &Instr::new(BCR, [15, 14, 0, 0, 0, 0]))
 }
 
 /// Returns at once where the condition code is 0; else loads the second doubleword of a table that stands 16 bytes from the start, and

@@ -13,9 +13,9 @@ use Rattle.form.specs.declared.instr.Entry.{Entry}
 use Rattle.form.specs.Form.{size, kinds}
 use Rattle.form.specs.Encode.{In, encode, six, takes}
 use Rattle.catalogue_law.specs.Catalogue.{misfit, catalogued, put_checks}
-use Rattle.codec.specs.Encoded.{encoded}
-use Rattle.codec.specs.declared.encode.Encoded.{Encoded}
-use Rattle.codec.proofs.Sums.{few_bytes, few_kinds}
+use Rattle.codec.proofs.Sums.{few_kinds}
+use Rattle.form.specs.declared.instr.Instr.{Instr}
+use Rattle.form.specs.Instr.{bytes_of, instr}
 use Rattle.catalogue_law.proofs.Basics.{ok_err, differ, not_refused}
 use Rattle.catalogue_law.proofs.Encoding.{encode_length}
 use Rattle.book.specs.declared.target.Target.{Target}
@@ -72,18 +72,12 @@ answered_is at x (Some r) e = absurd (ok_err refl e)
 
 -- one instruction more
 
-padded_off : (f : Form) (o : ℕ) (zs : List ℤ) → take (size f) (encode f o zs ++ replicate (6 - size f) 0) ≡ encode f o zs
-padded_off f o zs =
-    let l = encode_length f o zs in
-    let le : size f ≤ length (encode f o zs) = omega arith in
-    take-append-le (size f) (encode f o zs) (replicate (6 - size f) 0) le ∙ take_all (size f) (encode f o zs) (omega arith)
-
 abbrev pub item : Form → ℕ → List ℤ → Option Target → Aimed
 item f o zs aim = record { instr = record { form = f; opcode = o; operands = zs }; aim = aim }
 
-pub one_more : (s : State) (f : Form) (o : ℕ) (zs : List ℤ) (aim : Option Target) → extended s (encoded f o zs) aim ≡ written s (item f o zs aim ∷ [])
-one_more s f o zs None = rw (padded_off f o zs)
-one_more s f o zs (Some t) = rw (padded_off f o zs)
+pub one_more : (s : State) (f : Form) (o : ℕ) (zs : List ℤ) (aim : Option Target) → extended s (encode f o zs) aim ≡ written s (item f o zs aim ∷ [])
+one_more s f o zs None = rw (encode_length f o zs) refl
+one_more s f o zs (Some t) = rw (encode_length f o zs) refl
 
 -- the buffer is the section's
 
@@ -102,22 +96,20 @@ past_buffer s cs x done {r} {t} h c = subst (λ (b : Bool). Call (cond b (Some w
 pub not_written : {X Y : Type 0} (s : State) (cs ds : Checks) (x : X) (y : Y) (done : State) (e : Refusal) → other_buffer s ≡ false → Err e ≡ answer s.books.len (first_refusal cs) y → Call (section_refusal s (cs ++ ds)) x s done (Err e) s
 not_written s cs ds x y done e b h = past_buffer s (cs ++ ds) x done b (stopped cs ds x y s done e h)
 
-pub few : (f : Form) (o : ℕ) (zs : List ℤ) (at : ℕ) (c : Option Reason) {e : Encoded} → Ok e ≡ answer at c (encoded f o zs) → e.count ≤ 6
-few f o zs at c {e} h = subst (λ (k : Encoded). k.count ≤ 6) (sym (answered_is at (encoded f o zs) c h)) (few_bytes f)
-
 -- the catalogue gave its bytes, and the rest decides
-pub one_written : (s : State) (f : Form) (o : ℕ) (zs : List ℤ) (aim : Option Target) (cs : Checks) (ds : ℕ → Checks) (e : Encoded) {r : Result (Unit {0}) Refusal} {t : State}
-    → other_buffer s ≡ false → Ok e ≡ answer s.books.len (first_refusal cs) (encoded f o zs)
-    → Call (first_refusal (ds e.count)) tt s (extended s e aim) r t
+pub one_written : (s : State) (f : Form) (o : ℕ) (zs : List ℤ) (aim : Option Target) (cs : Checks) (ds : ℕ → Checks) (e : List ℕ) {r : Result (Unit {0}) Refusal} {t : State}
+    → other_buffer s ≡ false → Ok e ≡ answer s.books.len (first_refusal cs) (encode f o zs)
+    → Call (first_refusal (ds (length e))) tt s (extended s e aim) r t
     → Call (section_refusal s (cs ++ ds (size f + 0))) tt s (written s (item f o zs aim ∷ [])) r t
 one_written s f o zs aim cs ds e {r} {t} b h c =
-    let z : size f ≡ size f + 0 = omega arith in
-    let q = answered_is s.books.len (encoded f o zs) (first_refusal cs) h in
-    let c1 = subst (λ (k : Encoded). Call (first_refusal (ds k.count)) tt s (extended s k aim) r t) q c in
-    let c2 = subst (λ (n : ℕ). Call (first_refusal (ds n)) tt s (extended s (encoded f o zs) aim) r t) z c1 in
+    let l = encode_length f o zs in
+    let z : length (encode f o zs) ≡ size f + 0 = omega (arith, l) in
+    let q = answered_is s.books.len (encode f o zs) (first_refusal cs) h in
+    let c1 = subst (λ (k : List ℕ). Call (first_refusal (ds (length k))) tt s (extended s k aim) r t) q c in
+    let c2 = subst (λ (n : ℕ). Call (first_refusal (ds n)) tt s (extended s (encode f o zs) aim) r t) z c1 in
     let c3 = subst (λ (d : State). Call (first_refusal (ds (size f + 0))) tt s d r t) (one_more s f o zs aim) c2 in
     past_buffer s (cs ++ ds (size f + 0)) tt (written s (item f o zs aim ∷ [])) b
-    (passed cs (ds (size f + 0)) tt s (written s (item f o zs aim ∷ [])) (not_refused s.books.len (encoded f o zs) (first_refusal cs) h) c3)
+    (passed cs (ds (size f + 0)) tt s (written s (item f o zs aim ∷ [])) (not_refused s.books.len (encode f o zs) (first_refusal cs) h) c3)
 
 -- two tests refused nothing
 pub past_two : {X : Type 0} (a b : Bool) (p q : Reason) (o : Option Reason) (x : X) (s done : State) {r : Result X Refusal} {t : State} → true ≡ a → true ≡ b → Call o x s done r t
@@ -161,10 +153,10 @@ by_first es f o z at y {r} h =
     subst (λ (t : Bool). r ≡ answer at (first_refusal (why.Misfit when misfit f o ∷ why.Opcode when not (catalogued es f o) ∷ why.Operand when not t ∷ [])) y)
     (takes_first_of (kinds f) z (few_kinds f)) h
 
-pub by_lone : (es : List Entry) (f : Form) (o : ℕ) (z : ℤ) (at : ℕ) (zs : List ℤ) {r : Result Encoded Refusal} → zs ≡ six (z ∷ [])
-    → r ≡ answer at (first_refusal (put_checks es f o zs)) (encoded f o zs) → r ≡ answer at (first_refusal (first_checks es f o z)) (encoded f o (six (z ∷ [])))
-by_lone es f o z at zs {r} e h =
-    by_first es f o z at (encoded f o (six (z ∷ []))) (subst (λ (xs : List ℤ). r ≡ answer at (first_refusal (put_checks es f o xs)) (encoded f o xs)) e h)
+pub by_lone : (es : List Entry) (f : Form) (o : ℕ) (z : ℤ) (at : ℕ) (i : Instr) {r : Result (List ℕ) Refusal} → i ≡ instr f o (z ∷ [])
+    → r ≡ answer at (first_refusal (put_checks es i.form i.opcode i.operands)) (bytes_of i) → r ≡ answer at (first_refusal (first_checks es f o z)) (encode f o (six (z ∷ [])))
+by_lone es f o z at i {r} e h =
+    by_first es f o z at (encode f o (six (z ∷ []))) (subst (λ (j : Instr). r ≡ answer at (first_refusal (put_checks es j.form j.opcode j.operands)) (bytes_of j)) e h)
 
 pub too_long : (L S : Fields) (code : List ℕ) → ltb 1048576 (length code) ≡ true → Err (refused_at 0 why.Buffer) ≡ open_answer L S code
 too_long L S code h =

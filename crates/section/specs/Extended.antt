@@ -1,8 +1,7 @@
 -- One instruction more at the end of what is written, by its bytes.
-use Rattle.std.specs.Prelude.{ℕ, ◌+◌, Bool, true, cond, not, ◌&&◌, List, [], ◌∷◌, ◌++◌, take, Some, None, Option, ◌==◌, nat_lt}
+use Rattle.std.specs.Prelude.{ℕ, ◌+◌, Bool, true, cond, not, ◌&&◌, List, [], ◌∷◌, ◌++◌, length, Some, None, Option, ◌==◌, nat_lt}
 use Rattle.refusal.specs.declared.Reason.TheVariants as why
 use Rattle.refusal.specs.Refusals.{Checks, ◌when◌}
-use Rattle.codec.specs.declared.encode.Encoded.{Encoded}
 use Rattle.book.specs.declared.target.Target.{Target}
 use Rattle.book.specs.declared.target.Use.{Use}
 use Rattle.book.specs.declared.target.Target.TheVariants.{Label as to_label}
@@ -27,16 +26,16 @@ abbrev pub use_by : ℕ → ℕ → Option Target → List Use
 use_by at n None = []
 use_by at n (Some t) = record { place = at; kind = kind_by n; target = t } ∷ []
 
-abbrev pub extended : State → Encoded → Option Target → State
-extended s e aim =
+abbrev pub extended : State → List ℕ → Option Target → State
+extended s bytes aim =
     record {
       entries = s.entries;
-      code = write_at s.books.len (take e.count e.bytes) s.code;
+      code = write_at s.books.len bytes s.code;
       books =
           record {
             room = s.books.room;
-            len = s.books.len + e.count;
+            len = s.books.len + length bytes;
             labels = s.books.labels;
-            uses = s.books.uses ++ use_by s.books.len e.count aim;
+            uses = s.books.uses ++ use_by s.books.len (length bytes) aim;
           };
     }

@@ -1,87 +1,80 @@
-use address::access::Access;
+use address::access::{Access, MemAccess};
 use address::args::{MachMemFlags, MemArg};
 use address::frame::Frame;
 use catalogue::catalogue::Catalogue;
 use families::labels::Labels;
 use families::relocations::Relocations;
 use form::Form;
-use operand::reg::{Reg, RegClass};
+use form::instr::{Entry, Instr};
+use operand::reg::gpr;
 use reader::Reader;
-use refusal::Refusal;
+use refusal::{Reason, Refusal};
 use section::section::{Finished, Section, Unclosed};
 use std::test::Fail;
 
 type Code = Section<Labels, Relocations>;
 
-const NO_FRAME: Frame = Frame {
-    incoming_args_size: 0,
-    clobber_size: 0,
-    fixed_frame_storage_size: 0,
-    stackslots_size: 0,
-    outgoing_args_size: 0,
-    nominal_sp_offset: 0,
-    outgoing_sp_offset: 0,
-};
-
-fn general(number: u8) -> Reg {
-    Reg {
-        class: RegClass::Int,
-        number,
-    }
+/// Why it was refused, none where it was not.
+fn refused(r: Result<(), Refusal>) -> Option<Reason> {
+    r.err().map(|refusal| refusal.reason)
 }
 
-/// A refusal's number, 0 for an answer.
-fn number(r: Result<(), Refusal>) -> u8 {
+/// How a close was refused, or the length of the code; the section that is handed back is let go.
+fn closed(r: Result<Finished, Unclosed<Labels, Relocations>>) -> Result<usize, Refusal> {
     match r {
-        Ok(()) => 0,
-        Err(e) => e.reason.number(),
-    }
-}
-
-/// How a close was refused, 0 where it was not; the section that is handed back is let go.
-fn close_number(r: Result<Finished, Unclosed<Labels, Relocations>>) -> (u8, usize) {
-    match r {
-        Ok(done) => (0, done.len()),
-        Err(u) => {
+        Ok(done) => Ok(done.len()),
+        Err(unclosed) => {
             let Unclosed {
                 refusal,
                 section: _,
-            } = u;
-            (refusal.reason.number(), refusal.place)
+            } = unclosed;
+            Err(refusal)
         }
     }
 }
 
 fn mixed(heap: std::alloc::Global) -> Option<Catalogue> {
     let mut c = Catalogue::new(heap).ok()?;
-    let _ = c.admit(Form::Sil, 0xe544);
-    let _ = c.admit(Form::RilB, 0xc48);
-    let _ = c.admit(Form::Rr, 0x07);
+    let _ = c.admit(Entry::new(Form::Sil, 0xe544));
+    let _ = c.admit(Entry::new(Form::RilB, 0xc48));
+    let _ = c.admit(Entry::new(Form::Rr, 0x07));
     Some(c)
 }
 
+/// RR 0x07 with two registers.
+fn bcr(first: i64, second: i64) -> Instr {
+    Instr::new(Entry::new(Form::Rr, 0x07), [first, second, 0, 0, 0, 0])
+}
+
 /// A halfword is stored far from register 2, a doubleword is loaded from a symbol, and the routine returns.
-fn routine(s: &mut Code, c: &Catalogue, code: &mut [u8]) -> u8 {
-    let far = MemArg::reg_plus_off(general(2), 524288, MachMemFlags::trusted());
-    let store = Access::MemImm16 {
-        imm: -1,
-        sil: 0xe544,
+fn routine(s: &mut Code, c: &Catalogue, code: &mut [u8]) -> Result<(), Refusal> {
+    let store = MemAccess {
+        access: Access::MemImm16 {
+            imm: -1,
+            sil: 0xe544,
+        },
+        may_trap: false,
+        mem: MemArg::reg_plus_off(gpr(2), 524288, MachMemFlags::trusted()),
+        frame: &Frame::EMPTY,
     };
-    let first = number(s.access(c, code, &store, false, &far, &NO_FRAME));
-    let table = MemArg::Symbol {
-        name: 0,
-        offset: 8,
-        flags: MachMemFlags::trusted(),
+    s.access(c, code, &store)?;
+    let load = MemAccess {
+        access: Access::Mem {
+            rd: gpr(2),
+            rx: None,
+            rxy: None,
+            ril: Some(0xc48),
+        },
+        may_trap: false,
+        mem: MemArg::Symbol {
+            name: 0,
+            offset: 8,
+            flags: MachMemFlags::trusted(),
+        },
+        frame: &Frame::EMPTY,
     };
-    let load = Access::Mem {
-        rd: general(2),
-        rx: None,
-        rxy: None,
-        ril: Some(0xc48),
-    };
-    let second = number(s.access(c, code, &load, false, &table, &NO_FRAME));
-    let third = number(s.put(c, code, Form::Rr, 0x07, &[15, 14, 0, 0, 0, 0]));
-    first.max(second).max(third)
+    s.access(c, code, &load)?;
+    s.put(c, code, &bcr(15, 14))
 }
 
 #[test]
@@ -89,11 +82,10 @@ fn closes(rt: HostRuntime) -> Result<(), Fail> {
     let c = mixed(rt.alloc()).ok_or("memory")?;
     let mut code = [0u8; 24];
     let mut s = Code::open(&code, rt.alloc()).ok().ok_or("open")?;
-    assert!(rt; routine(&mut s, &c, &mut code) == 0);
+    assert!(rt; routine(&mut s, &c, &mut code).is_ok());
     // exactly full: nothing more fits
-    assert!(rt; number(s.put(&c, &mut code, Form::Rr, 0x07, &[15, 14, 0, 0, 0, 0])) == 16);
-    let (refused, len) = close_number(s.close(&mut code, &[32]));
-    assert!(rt; refused == 0 && len == 24);
+    assert!(rt; refused(s.put(&c, &mut code, &bcr(15, 14))) == Some(Reason::Room));
+    assert!(rt; closed(s.close(&mut code, &[32])) == Ok(24));
     assert_eq!(rt;
         code,
         [
@@ -110,16 +102,20 @@ fn refuses(rt: HostRuntime) -> Result<(), Fail> {
     let mut code = [0u8; 24];
     let mut other = [0u8; 22];
     let mut s = Code::open(&code, rt.alloc()).ok().ok_or("open")?;
-    assert!(rt; number(s.put(&c, &mut other, Form::Rr, 0x999, &[16, 14, 0, 0, 0, 0])) == 1);
-    assert!(rt; number(s.put(&c, &mut code, Form::Rr, 0x999, &[16, 14, 0, 0, 0, 0])) == 3);
-    assert!(rt; number(s.put(&c, &mut code, Form::Rr, 0x18, &[16, 14, 0, 0, 0, 0])) == 5);
-    assert!(rt; number(s.put(&c, &mut code, Form::Rr, 0x07, &[16, 14, 0, 0, 0, 0])) == 6);
-    assert!(rt; number(s.put_to_label(&c, &mut code, Form::Rr, 0x07, 1, 0)) == 11);
-    assert!(rt; number(s.put_to_label(&c, &mut code, Form::RilB, 0xc48, 1, 0)) == 12);
-    assert!(rt; routine(&mut s, &c, &mut code) == 0);
+    let unknown = Instr::new(Entry::new(Form::Rr, 0x999), [16, 14, 0, 0, 0, 0]);
+    let uncatalogued = Instr::new(Entry::new(Form::Rr, 0x18), [16, 14, 0, 0, 0, 0]);
+    let branch = Entry::new(Form::Rr, 0x07);
+    let relative = Entry::new(Form::RilB, 0xc48);
+    assert!(rt; refused(s.put(&c, &mut other, &unknown)) == Some(Reason::Buffer));
+    assert!(rt; refused(s.put(&c, &mut code, &unknown)) == Some(Reason::Misfit));
+    assert!(rt; refused(s.put(&c, &mut code, &uncatalogued)) == Some(Reason::Opcode));
+    assert!(rt; refused(s.put(&c, &mut code, &bcr(16, 14))) == Some(Reason::Operand));
+    assert!(rt; refused(s.put_to_label(&c, &mut code, branch, 1, 0)) == Some(Reason::Form));
+    assert!(rt; refused(s.put_to_label(&c, &mut code, relative, 1, 0)) == Some(Reason::Label));
+    assert!(rt; routine(&mut s, &c, &mut code).is_ok());
     // the symbol has no place: refused at the load, which stands at byte 16
-    let (refused, place) = close_number(s.close(&mut code, &[]));
-    assert!(rt; refused == 9 && place == 16);
+    let refusal = closed(s.close(&mut code, &[])).err().ok_or("closed")?;
+    assert!(rt; refusal.reason == Reason::Unbound && refusal.place == 16);
     assert!(rt; code[18] == 0 && code[21] == 0);
     Ok(())
 }

@@ -1,76 +1,37 @@
-ghost use Rattle.std.specs.Prelude.{◌≡◌, ◌≤◌, ◌&&◌, ◌||◌, List, [], ◌∷◌};
+ghost use Rattle.std.specs.Prelude.{◌≡◌, List, [], ◌∷◌};
 ghost use Rattle.refusal.specs.Refusals.{first_refusal, answered};
 ghost use Rattle.address.specs.Access.{opcodes, plan as plan_of};
 ghost use Rattle.section.specs.Accessing.{opcode_checks, planned_checks};
-ghost use Rattle.refusal.specs.Tests.{any, all};
-ghost use Rattle.catalogue_law.specs.Catalogue.{misfit as misfit_of, catalogued};
 ghost use Rattle.catalogue.specs.Listed.{entries_in};
 ghost use Rattle.book.specs.Books.{lost_label, leaves_use};
 ghost use Rattle.book.specs.Listed.{labels_in};
 ghost use Rattle.address.specs.declared.frame.Frame.{Frame};
 ghost use Rattle.address.specs.Convention.{standard};
 ghost use Rattle.address.specs.Address.{mode, target_of};
-ghost use Rattle.address.specs.Aimed.{size_of_all};
 ghost use Rattle.form.specs.declared.instr.Entry.{Entry};
-ghost use Rattle.address.specs.Held.{listed, items_of, when_ok};
+ghost use Rattle.address.specs.Held.{items_of, when_ok};
 ghost use Rattle.law.specs.Section.{written, Accesses};
 ghost use Rattle.section.specs.State.{state};
 ghost use Rattle.section.specs.Fits.{Fits};
 
 use crate::section::Section;
 use access::plan::plan;
-use address::access::{Access, AccessPlan, Aimed};
+use address::access::{Access, AccessPlan, Aimed, MemAccess};
 use address::args::MemArg;
-use address::frame::Frame;
 use catalogue::catalogue::Catalogue;
 use catalogue::entry::misfit;
 use codec::encode::encode;
-use form::instr::Entry;
 use refusal::{Reason, Refusal};
-
-/// Whether an opcode that is given does not fit its form.
-fn misfits(entry: Option<Entry>) -> bool
-    ensures { result ≡ any (λ e. misfit_of e.form e.opcode) (listed entry) }
-{
-    match entry {
-        Some(e) => misfit(e.form, e.opcode),
-        None => false,
-    }
-}
-
-/// Whether an opcode is catalogued, if it is given.
-fn is_held(catalogue: &Catalogue, entry: Option<Entry>) -> bool
-    ensures { result ≡ all (λ e. catalogued (entries_in catalogue.now) e.form e.opcode) (listed entry) }
-{
-    match entry {
-        Some(e) => catalogue.holds(e.form, e.opcode),
-        None => true,
-    }
-}
-
-/// Whether one of three does not fit.
-fn any_misfits(a: Option<Entry>, b: Option<Entry>, c: Option<Entry>) -> bool
-    ensures { result ≡ (any (λ e. misfit_of e.form e.opcode) (listed a) || (any (λ e. misfit_of e.form e.opcode) (listed b) || any (λ e. misfit_of e.form e.opcode) (listed c))) }
-{
-    misfits(a) || misfits(b) || misfits(c)
-}
-
-/// Whether three are catalogued.
-fn all_held(catalogue: &Catalogue, a: Option<Entry>, b: Option<Entry>, c: Option<Entry>) -> bool
-    ensures { result ≡ (all (λ e. catalogued (entries_in catalogue.now) e.form e.opcode) (listed a) && (all (λ e. catalogued (entries_in catalogue.now) e.form e.opcode) (listed b) && all (λ e. catalogued (entries_in catalogue.now) e.form e.opcode) (listed c))) }
-{
-    is_held(catalogue, a) && is_held(catalogue, b) && is_held(catalogue, c)
-}
 
 /// MISFIT and OPCODE, over the opcodes that an access is given.
 fn check_opcodes(catalogue: &Catalogue, access: &Access) -> Result<(), Reason>
     ensures { result ≡ answered (first_refusal (opcode_checks (entries_in catalogue.now) (opcodes access.now))) tt }
 {
-    let [a, b, c] = access.opcodes();
-    if any_misfits(a, b, c) {
+    let given = access.opcodes();
+    if given.iter().any(|e| e.is_some_and(misfit)) {
         return Err(Reason::Misfit);
     }
-    if !all_held(catalogue, a, b, c) {
+    if !given.iter().all(|e| e.is_none_or(|e| catalogue.holds(e))) {
         return Err(Reason::Opcode);
     }
     Ok(())
@@ -80,28 +41,7 @@ fn check_opcodes(catalogue: &Catalogue, access: &Access) -> Result<(), Reason>
 fn is_aimed(mem: &MemArg) -> bool
     ensures { (fr : Frame) → result ≡ leaves_use (target_of (mode standard fr mem.now)) }
 {
-    match *mem {
-        MemArg::Label { .. } | MemArg::Symbol { .. } => true,
-        _ => false,
-    }
-}
-
-/// How many bytes an instruction has, if there is one.
-fn size_if(item: Option<Aimed>) -> usize
-    ensures is { result ≡ size_of_all (listed item) }
-    ensures small { result ≤ 6 }
-{
-    match item {
-        Some(item) => item.instr.form.size(),
-        None => 0,
-    }
-}
-
-/// How many bytes a plan has.
-fn size_of_plan(plan: &AccessPlan) -> usize
-    ensures { result ≡ size_of_all (items_of plan.now) }
-{
-    size_if(plan.first) + size_if(plan.second) + size_if(Some(plan.access))
+    matches!(*mem, MemArg::Label { .. } | MemArg::Symbol { .. })
 }
 
 impl<L, S> Section<L, S> {
@@ -116,20 +56,11 @@ impl<L, S> Section<L, S> {
     }
 
     /// What an access writes, or why it does not, as far as space does not matter.
-    fn planned(
-        &self,
-        catalogue: &Catalogue,
-        access: &Access,
-        may_trap: bool,
-        mem: &MemArg,
-        frame: &Frame,
-    ) -> Result<AccessPlan, Reason>
-        ensures { when_ok items_of result ≡ answered (first_refusal (planned_checks (entries_in catalogue.now) (labels_in self.now.labels) (plan_of standard access.now may_trap mem.now frame.now))) (plan_of standard access.now may_trap mem.now frame.now).items }
+    fn planned(&self, catalogue: &Catalogue, request: &MemAccess) -> Result<AccessPlan, Reason>
+        ensures { when_ok items_of result ≡ answered (first_refusal (planned_checks (entries_in catalogue.now) (labels_in self.now.labels) (plan_of standard request.now.access request.now.may_trap request.now.mem request.now.frame.now))) (plan_of standard request.now.access request.now.may_trap request.now.mem request.now.frame.now).items }
     {
-        match check_opcodes(catalogue, access) {
-            Err(reason) => Err(reason),
-            Ok(()) => plan(access, may_trap, mem, frame, self.names_lost(mem)),
-        }
+        check_opcodes(catalogue, &request.access)?;
+        plan(request, self.names_lost(&request.mem))
     }
 
     /// Writes an instruction at the end, and records the use of what it is aimed at.
@@ -137,20 +68,8 @@ impl<L, S> Section<L, S> {
         requires { Fits (state self.old [] code.old) (item.now ∷ []) }
         ensures { (es : List Entry) → state self.new es code.new ≡ written (state self.old es code.old) (item.now ∷ []) }
     {
-        let instr = item.instr;
-        match encode(instr.form, instr.opcode, &instr.operands) {
-            Ok(encoded) => self.extend(code, &encoded, item.aim),
-            Err(_) => unreachable(),
-        }
-    }
-
-    fn write_if(&mut self, code: &mut [u8], item: &Option<Aimed>)
-        requires { Fits (state self.old [] code.old) (listed item.now) }
-        ensures { (es : List Entry) → state self.new es code.new ≡ written (state self.old es code.old) (listed item.now) }
-    {
-        match *item {
-            Some(item) => self.write_item(code, &item),
-            None => {}
+        if let Ok(encoded) = encode(&item.instr) {
+            self.extend(code, &encoded, item.aim);
         }
     }
 
@@ -159,8 +78,12 @@ impl<L, S> Section<L, S> {
         requires { Fits (state self.old [] code.old) (items_of plan.now) }
         ensures { (es : List Entry) → state self.new es code.new ≡ written (state self.old es code.old) (items_of plan.now) }
     {
-        self.write_if(code, &plan.first);
-        self.write_if(code, &plan.second);
+        if let Some(first) = plan.first {
+            self.write_item(code, &first);
+        }
+        if let Some(second) = plan.second {
+            self.write_item(code, &second);
+        }
         self.write_item(code, &plan.access);
     }
 
@@ -170,26 +93,19 @@ impl<L, S> Section<L, S> {
         &mut self,
         catalogue: &Catalogue,
         code: &mut [u8],
-        access: &Access,
-        may_trap: bool,
-        mem: &MemArg,
-        frame: &Frame,
+        request: &MemAccess,
     ) -> Result<(), Refusal>
-        ensures step { Accesses standard (state self.old (entries_in catalogue.now) code.old) access.now may_trap mem.now frame.now result (state self.new (entries_in catalogue.now) code.new) }
+        ensures step { Accesses standard (state self.old (entries_in catalogue.now) code.old) request.now.access request.now.may_trap request.now.mem request.now.frame.now result (state self.new (entries_in catalogue.now) code.new) }
         ensures room { self.new.room ≡ self.old.room }
     {
         if self.is_other(code) {
             return Err(Refusal::at(self.len, Reason::Buffer));
         }
-        match self.planned(catalogue, access, may_trap, mem, frame) {
-            Err(reason) => Err(Refusal::at(self.len, reason)),
-            Ok(plan) => match self.space(is_aimed(mem), size_of_plan(&plan)) {
-                Err(reason) => Err(Refusal::at(self.len, reason)),
-                Ok(()) => {
-                    self.write_plan(code, &plan);
-                    Ok(())
-                }
-            },
-        }
+        let plan = self
+            .planned(catalogue, request)
+            .map_err(|reason| Refusal::at(self.len, reason))?;
+        self.space(is_aimed(&request.mem), plan.size())?;
+        self.write_plan(code, &plan);
+        Ok(())
     }
 }

@@ -1,6 +1,6 @@
-ghost use Rattle.std.specs.Prelude.{◌≡◌, ◌+◌, ◌≤◌, false, ◌&&◌, List, [], length, take};
+ghost use Rattle.std.specs.Prelude.{◌≡◌, ◌+◌, ◌≤◌, false, ◌&&◌, List, [], length};
 ghost use Rattle.form.specs.declared.instr.Entry.{Entry};
-ghost use Rattle.refusal.specs.Refusals.{first_refusal, answered};
+ghost use Rattle.refusal.specs.Refusals.{first_refusal, answer};
 ghost use Rattle.book.specs.Books.{uses_full, leaves_use};
 ghost use Rattle.settle_law.specs.Settle.{write_at};
 ghost use Rattle.law.specs.Section.{other_buffer, Call};
@@ -16,14 +16,12 @@ use refusal::{Reason, Refusal};
 pub const LARGEST_BUFFER: usize = 1048576;
 
 /// Writes an instruction's bytes over the code, from `place` on.
-fn lay(code: &mut [u8], place: usize, encoded: &Encoded)
-    requires reaches { place + encoded.now.count ≤ length code.old }
-    requires short { encoded.now.count ≤ 6 }
-    ensures { code.new ≡ write_at place (take encoded.now.count encoded.now.bytes) code.old }
+fn lay(code: &mut [u8], place: usize, bytes: &[u8])
+    requires { place + length bytes.now ≤ length code.old }
+    ensures { code.new ≡ write_at place bytes.now code.old }
 {
-    let count = encoded.count;
-    let past = place + count;
-    code[place..past].copy_from_slice(&encoded.bytes[..count]);
+    let past = place + bytes.len();
+    code[place..past].copy_from_slice(bytes);
 }
 
 /// The kind of field that an instruction of so many bytes has.
@@ -41,15 +39,15 @@ impl<L, S> Section<L, S> {
         code.len() > LARGEST_BUFFER || code.len() != self.room
     }
 
-    /// Whether so many bytes more, aimed or not, can be written.
-    pub(crate) fn space(&self, aimed: bool, count: usize) -> Result<(), Reason>
-        ensures { result ≡ answered (first_refusal (end_checks (books_of self.now) aimed count)) tt }
+    /// FULL and ROOM, where so many bytes more, aimed or not, cannot be written.
+    pub(crate) fn space(&self, aimed: bool, count: usize) -> Result<(), Refusal>
+        ensures { result ≡ answer self.now.len (first_refusal (end_checks (books_of self.now) aimed count)) tt }
     {
         if aimed && self.uses.is_full() {
-            return Err(Reason::Full);
+            return Err(Refusal::at(self.len, Reason::Full));
         }
         if count > self.room - self.len {
-            return Err(Reason::Room);
+            return Err(Refusal::at(self.len, Reason::Room));
         }
         Ok(())
     }
@@ -57,16 +55,15 @@ impl<L, S> Section<L, S> {
     /// Writes an instruction's bytes at the end, and records the use of what it is aimed at.
     pub(crate) fn extend(&mut self, code: &mut [u8], encoded: &Encoded, aim: Option<Target>)
         requires ours { length code.old ≡ self.old.room }
-        requires short { encoded.now.count ≤ 6 }
-        requires fits { self.old.len + encoded.now.count ≤ self.old.room }
+        requires fits { self.old.len + length encoded.now ≤ self.old.room }
         requires uses { (leaves_use aim && uses_full (books_of self.old)) ≡ false }
         ensures { (es : List Entry) → state self.new es code.new ≡ extended (state self.old es code.old) encoded.now aim }
     {
         let place = self.len;
-        lay(code, place, encoded);
-        self.len = place + encoded.count;
+        lay(code, place, encoded.as_slice());
+        self.len = place + encoded.len();
         if let Some(target) = aim {
-            let kind = kind_by(encoded.count);
+            let kind = kind_by(encoded.len());
             let _ = self.uses.record_use(Use {
                 place,
                 kind,
@@ -82,16 +79,11 @@ impl<L, S> Section<L, S> {
         encoded: &Encoded,
         aim: Option<Target>,
     ) -> Result<(), Refusal>
-        requires ours { length code.old ≡ self.old.room }
-        requires short { encoded.now.count ≤ 6 }
-        ensures { (es : List Entry) → Call (first_refusal (end_checks (books_of self.old) (leaves_use aim) encoded.now.count)) tt (state self.old es code.old) (extended (state self.old es code.old) encoded.now aim) result (state self.new es code.new) }
+        requires { length code.old ≡ self.old.room }
+        ensures { (es : List Entry) → Call (first_refusal (end_checks (books_of self.old) (leaves_use aim) (length encoded.now))) tt (state self.old es code.old) (extended (state self.old es code.old) encoded.now aim) result (state self.new es code.new) }
     {
-        match self.space(aim.is_some(), encoded.count) {
-            Err(reason) => Err(Refusal::at(self.len, reason)),
-            Ok(()) => {
-                self.extend(code, encoded, aim);
-                Ok(())
-            }
-        }
+        self.space(aim.is_some(), encoded.len())?;
+        self.extend(code, encoded, aim);
+        Ok(())
     }
 }

@@ -13,7 +13,7 @@ use crate::section::{Finished, Section, Unclosed};
 use book::target::Slot;
 use field::family::FieldPatch;
 use refusal::{Reason, Refusal};
-use settle::settle;
+use settle::{Places, settle};
 
 impl Finished {
     /// How many bytes of the buffer the code has.
@@ -48,22 +48,24 @@ impl<L: FieldPatch, S: FieldPatch> Section<L, S> {
                 section: self,
             });
         }
-        match settle::<L, S>(self.uses.as_slice(), &self.labels, symbols, code) {
-            Err(refusal) => Err(Unclosed {
+        let places = Places {
+            labels: &self.labels,
+            symbols,
+        };
+        if let Err(refusal) = settle::<L, S>(self.uses.as_slice(), &places, code) {
+            return Err(Unclosed {
                 refusal,
                 section: self,
-            }),
-            Ok(()) => {
-                let Section {
-                    room: _,
-                    len,
-                    labels,
-                    uses: _,
-                    label_family: _,
-                    symbol_family: _,
-                } = self;
-                Ok(Finished { count: len, labels })
-            }
+            });
         }
+        let Section {
+            room: _,
+            len,
+            labels,
+            uses: _,
+            label_family: _,
+            symbol_family: _,
+        } = self;
+        Ok(Finished { count: len, labels })
     }
 }

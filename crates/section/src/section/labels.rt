@@ -15,10 +15,12 @@ impl<L, S> Section<L, S> {
         if self.is_other(code) {
             return Err(Refusal::at(self.len, Reason::Buffer));
         }
-        match self.labels.reserve() {
-            Ok(label) => Ok(Promise { label }),
-            Err(reason) => Err(Refusal::at(self.len, reason)),
-        }
+        let len = self.len;
+        let label = self
+            .labels
+            .reserve()
+            .map_err(|reason| Refusal::at(len, reason))?;
+        Ok(Promise { label })
     }
 
     /// Binds a promised label here, at the end of what is written. Refused by BUFFER and LABEL, which hand the promise back.

@@ -33,14 +33,8 @@ impl<L: FieldRead, S: FieldRead> Section<L, S> {
         if !both_serve::<L, S>() {
             return Err(Refusal::at(0, Reason::Kind));
         }
-        let labels = match LabelBook::new(heap) {
-            Ok(labels) => labels,
-            Err(reason) => return Err(Refusal::at(0, reason)),
-        };
-        let uses = match UseBook::new(heap) {
-            Ok(uses) => uses,
-            Err(reason) => return Err(Refusal::at(0, reason)),
-        };
+        let labels = LabelBook::new(heap).map_err(|reason| Refusal::at(0, reason))?;
+        let uses = UseBook::new(heap).map_err(|reason| Refusal::at(0, reason))?;
         Ok(Section {
             room,
             len: 0,

@@ -1,6 +1,6 @@
-ghost use Rattle.std.specs.Prelude.{◌≡◌, ◌≤◌, List, [], ◌∷◌, length, Some};
+ghost use Rattle.std.specs.Prelude.{◌≡◌, List, [], ◌∷◌, length, Some};
 ghost use Rattle.refusal.specs.Refusals.{first_refusal};
-ghost use Rattle.form.specs.Encode.{six};
+ghost use Rattle.form.specs.Instr.{instr};
 ghost use Rattle.form.specs.declared.instr.Entry.{Entry};
 ghost use Rattle.book.specs.declared.target.Target.TheVariants.{Label as to_label};
 ghost use Rattle.catalogue.specs.Listed.{entries_in};
@@ -13,24 +13,21 @@ use book::target::Target;
 use catalogue::catalogue::Catalogue;
 use codec::encode::Encoded;
 use form::Form;
+use form::instr::{Entry, Instr};
 use refusal::{Reason, Refusal};
 
 /// Whether a form is of the branches relative to the instruction.
 fn is_branch(form: Form) -> bool
     ensures { result ≡ branches form }
 {
-    let n = form.number();
-    n == Form::RiB.number()
-        || n == Form::RiC.number()
-        || n == Form::RilB.number()
-        || n == Form::RilC.number()
+    matches!(form, Form::RiB | Form::RiC | Form::RilB | Form::RilC)
 }
 
-/// Operands of which only the first is not 0.
-fn lone(first: i64) -> [i64; 6]
-    ensures { result ≡ six (first ∷ []) }
+/// An instruction of whose operands only the first is not 0.
+fn lone(entry: Entry, first: i64) -> Instr
+    ensures { result ≡ instr entry.form entry.opcode (first ∷ []) }
 {
-    [first, 0, 0, 0, 0, 0]
+    Instr::new(entry, [first, 0, 0, 0, 0, 0])
 }
 
 impl<L, S> Section<L, S> {
@@ -39,20 +36,16 @@ impl<L, S> Section<L, S> {
         &mut self,
         catalogue: &Catalogue,
         code: &mut [u8],
-        form: Form,
-        opcode: u16,
-        operands: &[i64; 6],
+        instr: &Instr,
     ) -> Result<(), Refusal>
-        ensures step { Puts (state self.old (entries_in catalogue.now) code.old) form opcode operands.now result (state self.new (entries_in catalogue.now) code.new) }
+        ensures step { Puts (state self.old (entries_in catalogue.now) code.old) instr.now.form instr.now.opcode instr.now.operands result (state self.new (entries_in catalogue.now) code.new) }
         ensures room { self.new.room ≡ self.old.room }
     {
         if self.is_other(code) {
             return Err(Refusal::at(self.len, Reason::Buffer));
         }
-        match catalogue.write(self.len, form, opcode, operands) {
-            Err(refusal) => Err(refusal),
-            Ok(encoded) => self.append(code, &encoded, None),
-        }
+        let encoded = catalogue.write(self.len, instr)?;
+        self.append(code, &encoded, None)
     }
 
     /// Writes a branch at the end, aimed at a label: FORM, LABEL, FULL and ROOM.
@@ -63,9 +56,8 @@ impl<L, S> Section<L, S> {
         encoded: &Encoded,
         label: usize,
     ) -> Result<(), Refusal>
-        requires ours { length code.old ≡ self.old.room }
-        requires short { encoded.now.count ≤ 6 }
-        ensures { (es : List Entry) → Call (first_refusal (aim_checks (books_of self.old) form label encoded.now.count)) tt (state self.old es code.old) (extended (state self.old es code.old) encoded.now (Some (to_label label))) result (state self.new es code.new) }
+        requires { length code.old ≡ self.old.room }
+        ensures { (es : List Entry) → Call (first_refusal (aim_checks (books_of self.old) form label (length encoded.now))) tt (state self.old es code.old) (extended (state self.old es code.old) encoded.now (Some (to_label label))) result (state self.new es code.new) }
     {
         if !is_branch(form) {
             return Err(Refusal::at(self.len, Reason::Form));
@@ -82,21 +74,17 @@ impl<L, S> Section<L, S> {
         &mut self,
         catalogue: &Catalogue,
         code: &mut [u8],
-        form: Form,
-        opcode: u16,
+        entry: Entry,
         first: i64,
         label: usize,
     ) -> Result<(), Refusal>
-        ensures step { PutsToLabel (state self.old (entries_in catalogue.now) code.old) form opcode first label result (state self.new (entries_in catalogue.now) code.new) }
+        ensures step { PutsToLabel (state self.old (entries_in catalogue.now) code.old) entry.form entry.opcode first label result (state self.new (entries_in catalogue.now) code.new) }
         ensures room { self.new.room ≡ self.old.room }
     {
         if self.is_other(code) {
             return Err(Refusal::at(self.len, Reason::Buffer));
         }
-        let operands = lone(first);
-        match catalogue.write(self.len, form, opcode, &operands) {
-            Err(refusal) => Err(refusal),
-            Ok(encoded) => self.branch(code, form, &encoded, label),
-        }
+        let encoded = catalogue.write(self.len, &lone(entry, first))?;
+        self.branch(code, entry.form, &encoded, label)
     }
 }
