@@ -1,4 +1,3 @@
-pub mod Opcodes
 pub mod Along
-pub mod Written
 pub mod Read
+pub mod Written

@@ -1,6 +1,8 @@
-ghost use Rattle.std.specs.Prelude.{◌≡◌, ◌≤◌, true, vec_capacity};
+ghost use Rattle.std.specs.Prelude.{◌≡◌, true};
 ghost use Rattle.catalogue_law.specs.Catalogue.{sound as is_sound};
 
+use crate::catalogue::calls::LIMIT;
+use bounded::Bounded;
 use form::instr::Entry;
 
 pub mod calls;
@@ -10,7 +12,6 @@ pub mod reading;
 /// form and no two clash. Memory for all was taken when it was made.
 #[derive(Drop)]
 pub struct Catalogue {
-    entries: Vec<Entry>,
-    ghost room: { 512 ≤ vec_capacity entries },
-    ghost sound: { is_sound entries.items ≡ true },
+    entries: Bounded<Entry, LIMIT>,
+    ghost sound: { is_sound entries ≡ true },
 }

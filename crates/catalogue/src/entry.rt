@@ -1,9 +1,8 @@
-ghost use Rattle.std.specs.Prelude.{◌≡◌};
-ghost use Rattle.form.specs.Table.{places};
-ghost use Rattle.catalogue_law.specs.Catalogue.{length_by_first_byte, first_byte, misfit as misfits, same_numbers, clashes as clashing, is_entry as is_this, matches};
+ghost use Rattle.std.specs.Prelude.{◌≡◌, ◌^◌, length, nat_le};
+ghost use Rattle.form.specs.Form.{opcode_digits};
+ghost use Rattle.catalogue_law.specs.Catalogue.{length_by_first_byte, first_byte, misfit as misfits, clashes as clashing, matches};
 
 use codec::decode::opcode_in;
-use form::Form;
 use form::instr::Entry;
 use form::table::OpcodeDigits;
 
@@ -18,68 +17,40 @@ pub fn length_by_first_byte(first: u8) -> usize
     }
 }
 
-/// The first byte of an opcode, which may have too many digits.
-fn first_byte(form: Form, opcode: u16) -> u16
-    ensures { result ≡ first_byte form opcode }
+/// The first byte of an opcode, above 255 where it has too many digits.
+fn first_byte(entry: Entry) -> u16
+    ensures is { result ≡ first_byte entry.form entry.opcode }
+    ensures wide { nat_le 256 result ≡ nat_le (16 ^ length (opcode_digits entry.form)) entry.opcode }
 {
-    match form.opcode_digits() {
-        OpcodeDigits::Two => opcode,
-        OpcodeDigits::Three => opcode / 16,
-        OpcodeDigits::FourFront => opcode / 256,
-        OpcodeDigits::FourEnds => opcode / 256,
+    match entry.form.opcode_digits() {
+        OpcodeDigits::Two => entry.opcode,
+        OpcodeDigits::Three => entry.opcode / 16,
+        OpcodeDigits::FourFront | OpcodeDigits::FourEnds => entry.opcode / 256,
     }
 }
 
 /// Whether an opcode has more digits than its form's row, or its first byte means another length.
-pub fn misfit(form: Form, opcode: u16) -> bool
-    ensures { result ≡ misfits form opcode }
+pub fn misfit(entry: Entry) -> bool
+    ensures { result ≡ misfits entry.form entry.opcode }
 {
-    let first = first_byte(form, opcode);
-    if first >= 256 {
-        return true;
-    }
-    length_by_first_byte(first as u8) != form.size()
+    let first = first_byte(entry);
+    first >= 256 || length_by_first_byte(first as u8) != entry.form.size()
 }
 
-fn same_digits(a: OpcodeDigits, b: OpcodeDigits) -> bool
-    ensures { result ≡ same_numbers (places a) (places b) }
+/// Whether an entry clashes with another, `e`: with the same first byte, the rest of the opcode stands in other digits, or the opcode is the
+/// same.
+pub fn clashes(entry: Entry, e: Entry) -> bool
+    ensures { result ≡ clashing entry.form entry.opcode e }
 {
-    match (a, b) {
-        (OpcodeDigits::Two, OpcodeDigits::Two) => true,
-        (OpcodeDigits::Three, OpcodeDigits::Three) => true,
-        (OpcodeDigits::FourFront, OpcodeDigits::FourFront) => true,
-        (OpcodeDigits::FourEnds, OpcodeDigits::FourEnds) => true,
-        _ => false,
-    }
-}
-
-/// Whether a form and an opcode clash with an entry: with the same first byte, the rest of the opcode stands in other digits, or the opcode
-/// is the same.
-pub fn clashes(form: Form, opcode: u16, e: Entry) -> bool
-    ensures { result ≡ clashing form opcode e }
-{
-    if first_byte(e.form, e.opcode) != first_byte(form, opcode) {
+    if first_byte(e) != first_byte(entry) {
         return false;
     }
-    if !same_digits(e.form.opcode_digits(), form.opcode_digits()) {
-        return true;
-    }
-    e.opcode == opcode
-}
-
-/// Whether an entry is of this form and opcode.
-pub fn is_entry(form: Form, opcode: u16, e: Entry) -> bool
-    ensures { result ≡ is_this form opcode e }
-{
-    e.form.number() == form.number() && e.opcode == opcode
+    e.form.opcode_digits() != entry.form.opcode_digits() || e.opcode == entry.opcode
 }
 
 /// Whether the bytes are as many as the entry's form has, with its opcode's digits.
 pub fn is_match(e: Entry, bytes: &[u8]) -> bool
     ensures { result ≡ matches bytes.now e }
 {
-    match opcode_in(e.form, bytes) {
-        Some(opcode) => opcode == e.opcode,
-        None => false,
-    }
+    opcode_in(e.form, bytes) == Some(e.opcode)
 }

@@ -14,12 +14,7 @@ fn find_entry(entries: &[Entry], bytes: &[u8]) -> Option<Entry>
     ensures is { result ≡ find (matches bytes.now) entries.now }
     ensures long { IfSome result (λ e. length bytes.now ≡ size_of e.form) }
 {
-    for e in entries {
-        if is_match(*e, bytes) {
-            return Some(*e);
-        }
-    }
-    None
+    entries.iter().find(|e| is_match(**e, bytes)).copied()
 }
 
 /// How many bytes an answer of reading has taken.
@@ -28,8 +23,7 @@ fn size_read(answer: &Result<Option<Placed>, Refusal>) -> usize
 {
     match answer {
         Ok(Some(read)) => read.instr.form.size(),
-        Ok(None) => 0,
-        Err(_) => 0,
+        Ok(None) | Err(_) => 0,
     }
 }
 
@@ -39,30 +33,21 @@ impl Catalogue {
         ensures is { result ≡ read_rest (entries_in self.now) place bytes.now }
         ensures within { taken result ≤ length bytes.now }
     {
-        match bytes {
-            [] => Ok(None),
-            [first, ..] => {
-                let count = length_by_first_byte(*first);
-                if bytes.len() < count {
-                    return Err(Refusal::at(place, Reason::Cut));
-                }
-                let head = &bytes[..count];
-                match find_entry(&self.entries, head) {
-                    None => Err(Refusal::at(place, Reason::Unknown)),
-                    Some(e) => match decode(e.form, head) {
-                        None => Err(Refusal::at(place, Reason::Unused)),
-                        Some(operands) => {
-                            let instr = Instr {
-                                form: e.form,
-                                opcode: e.opcode,
-                                operands,
-                            };
-                            Ok(Some(Placed { place, instr }))
-                        }
-                    },
-                }
-            }
+        let Some(first) = bytes.first() else {
+            return Ok(None);
+        };
+        let count = length_by_first_byte(*first);
+        if bytes.len() < count {
+            return Err(Refusal::at(place, Reason::Cut));
         }
+        let head = &bytes[..count];
+        let entry = find_entry(self.entries.as_slice(), head).ok_or(Refusal::at(
+            place,
+            Reason::Unknown,
+        ))?;
+        let operands = decode(entry.form, head).ok_or(Refusal::at(place, Reason::Unused))?;
+        let instr = Instr::new(entry, operands);
+        Ok(Some(Placed { place, instr }))
     }
 
     /// Reads the instruction that the bytes begin with, none where there are no bytes, and answers the bytes behind it. Refused by CUT,

@@ -1,22 +1,21 @@
-use Rattle.std.proofs.Common.{◌≡◌, ◌<◌, false, leb, List, length, None, vec_items, sym, ap, ◌∙◌, arith, rules}
-use borrow.Author.Tests.{lt-leb}
+use Rattle.std.proofs.Common.{◌≡◌, Bool, true, false, leb, List, [], ◌∷◌, ◌++◌, length, None, sym, refl, ap, ◌∙◌}
+use Rattle.refusal.specs.Refusals.{unless}
 use Rattle.refusal.specs.Tests.{any}
 use Rattle.form.specs.declared.instr.Entry.{Entry}
+use Rattle.bounded.specs.Lists.{full_refusal}
 use Rattle.catalogue_law.specs.Catalogue.{misfit, clashes, sound, admit_refusal}
 use Rattle.catalogue_law.proofs.Sound.{sound_admitted}
 use Rattle.catalogue.proofs.catalogue.Catalogue.admit.Goals as goal
 
+still_sound : (es : List Entry) (e : Entry) → sound es ≡ true → misfit e.form e.opcode ≡ false → any (clashes e.form e.opcode) es ≡ false
+    → sound (unless (full_refusal 512 es) (es ++ e ∷ []) es) ≡ true
+still_sound es e s m a = by (leb 512 (length es)) refl where
+  by : (b : Bool) → leb 512 (length es) ≡ b → sound (unless (full_refusal 512 es) (es ++ e ∷ []) es) ≡ true
+  by true f = rw f s
+  by false f =
+      let n : admit_refusal es e.form e.opcode ≡ None = rw (m, a, f) in
+      rw f (sound_admitted es e.form e.opcode s n)
+
 pub invariant_of-self : goal.invariant_of-self
 invariant_of-self c =
-    let es : List Entry = vec_items c.args.self.now.entries in
-    let m : misfit c.args.form c.args.opcode ≡ false = sym c.if-misfit.ensures in
-    let a : any (clashes c.args.form c.args.opcode) es ≡ false =
-    ap (any (clashes c.args.form c.args.opcode)) (sym c.deref.ensures.value) ∙ sym c.if-any_clash.ensures in
-    let k = c.args.self.now.entries.ok.0 in
-    let s : length es < 512 = omega arith in
-    let f : leb 512 (length es) ≡ false = lt-leb 512 (length es) s in
-    let n : admit_refusal es c.args.form c.args.opcode ≡ None = rw (m, a, f) in
-    record {
-      room = search rules;
-      sound = ap sound c.push_reserved.ensures.items ∙ sound_admitted es c.args.form c.args.opcode c.args.self.now.sound n;
-    }
+    record { sound = ap sound c.push.ensures.leaves ∙ still_sound c.args.self.now.entries c.args.entry c.args.self.now.sound (sym c.if-misfit.ensures) (sym c.if-is_clash.ensures) }

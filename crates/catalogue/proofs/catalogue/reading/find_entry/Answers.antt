@@ -1,18 +1,10 @@
-use Rattle.std.proofs.Common.{sym, ◌∙◌}
+use Rattle.std.proofs.Common.{◌∙◌, rules}
+use borrow.Author.Tests.{tests}
+use Rattle.std.proofs.lemmas.Iterator.{YieldsList-from_slice}
+use Rattle.std.proofs.lemmas.Iterator.Search.{find_from_yields_List}
 use Rattle.catalogue_law.specs.Catalogue.{matches}
-use Rattle.catalogue.proofs.Along.{find_hit, find_miss, find_none, match_long}
 use Rattle.catalogue.proofs.catalogue.reading.find_entry.Goals as goal
 
-pub returns-then-is_match : goal.returns-then-is_match
-returns-then-is_match c =
-    record {
-      is = sym (sym c.loop-e.invariant ∙ find_hit (matches c.args.bytes.now) c.args.entries.now c.loop-e.e-index _ c.loop-e-test.true (sym c.if-is_match.ensures));
-      long = match_long c.args.bytes.now _ (sym c.if-is_match.ensures);
-    }
-
-pub loop-e-preserved : goal.loop-e-preserved
-loop-e-preserved c =
-    sym (find_miss (matches c.args.bytes.now) c.args.entries.now c.loop-e.e-index _ c.loop-e-test.true (sym c.if-is_match.ensures)) ∙ c.loop-e.invariant
-
-pub returns : goal.returns
-returns c = record { is = sym (sym c.loop-e.invariant ∙ find_none (matches c.args.bytes.now) c.args.entries.now c.loop-e.e-index c.loop-e-test.false); long = tt }
+pub returns-clause-is : goal.returns-clause-is
+returns-clause-is c =
+    c.copied.ensures ∙ find_from_yields_List (matches c.args.bytes.now) _ _ c.find.result c.find.ensures.ran (YieldsList-from_slice c.args.entries.now cc) (λ x b q k. search (rules, tests))
