@@ -15,8 +15,14 @@ use book::label_book::LabelBook;
 use book::target::{Slot, Target, Use};
 use field::distance::checked_distance;
 use field::family::{FieldPatch, FieldRead};
-use field::verdict::at_field;
-use refusal::{Reason, Refusal, at};
+use refusal::{Reason, Refusal};
+
+/// Where targets lie, from the section's start: the labels, and the symbols by their numbers.
+#[derive(Clone, Copy)]
+pub struct Places<'a> {
+    pub labels: &'a LabelBook,
+    pub symbols: &'a [i64],
+}
 
 /// The distance from an instruction to a symbol's place and an offset.
 fn apart(from: usize, place: i64, offset: i32) -> i128
@@ -25,39 +31,34 @@ fn apart(from: usize, place: i64, offset: i32) -> i128
     place as i128 + offset as i128 - from as i128
 }
 
-/// The distance that a use's field is to hold, if its target lies somewhere.
-fn distance_of(field: &Use, labels: &LabelBook, symbols: &[i64]) -> Option<i128>
-    ensures { result ≡ distance_from field.now.place (place_of (labels_in labels.now) symbols.now field.now.target) }
-{
-    match field.target {
-        Target::Label(label) => match labels.slot(label) {
-            Slot::Bound(place) => Some(place as i128 - field.place as i128),
-            _ => None,
-        },
-        Target::Symbol(symbol, offset) => {
-            if symbol >= symbols.len() {
-                return None;
+impl Places<'_> {
+    /// The distance that a use's field is to hold, if its target lies somewhere.
+    fn distance_of(&self, field: &Use) -> Option<i128>
+        ensures { result ≡ distance_from field.now.place (place_of (labels_in self.now.labels.now) self.now.symbols.now field.now.target) }
+    {
+        match field.target {
+            Target::Label(label) => {
+                let Slot::Bound(place) = self.labels.slot(label) else {
+                    return None;
+                };
+                Some(place as i128 - field.place as i128)
             }
-            Some(apart(field.place, symbols[symbol], offset))
+            Target::Symbol(symbol, offset) => {
+                let place = self.symbols.get(symbol)?;
+                Some(apart(field.place, *place, offset))
+            }
         }
     }
 }
 
-/// Where the family's bytes for an instruction lie in the code, as far as it reaches.
-fn window<F: FieldRead>(kind: u8, place: usize, len: usize) -> (usize, usize)
-    ensures from { result.0 ≡ window_from (F.FieldRead.fields.table kind) place len }
-    ensures past { result.1 ≡ window_past (F.FieldRead.fields.table kind) place len }
+/// Where the family's bytes for a use lie in the code, as far as it reaches.
+fn window<F: FieldRead>(field: &Use, len: usize) -> (usize, usize)
+    ensures from { result.0 ≡ window_from (F.FieldRead.fields.table field.now.kind) field.now.place len }
+    ensures past { result.1 ≡ window_past (F.FieldRead.fields.table field.now.kind) field.now.place len }
 {
-    let lead = match F::lead(kind) {
-        Ok(lead) => lead as usize,
-        Err(_) => 0,
-    };
-    let size = match F::size(kind) {
-        Ok(size) => size as usize,
-        Err(_) => 0,
-    };
-    let from = place.saturating_add(lead).min(len);
-    let past = from.saturating_add(size).min(len);
+    let (lead, size) = F::info(field.kind).map_or((0, 0), |info| (info.lead, info.size));
+    let from = field.place.saturating_add(lead as usize).min(len);
+    let past = from.saturating_add(size as usize).min(len);
     (from, past)
 }
 
@@ -65,13 +66,9 @@ fn window<F: FieldRead>(kind: u8, place: usize, len: usize) -> (usize, usize)
 fn plan<F: FieldRead>(field: &Use, wanted: Option<i128>, len: usize) -> Result<i64, Refusal>
     ensures { result ≡ planned F.FieldRead.fields field.now len wanted }
 {
-    let distance = at(field.place, wanted.ok_or(Reason::Unbound))?;
-    let (from, past) = window::<F>(field.kind, field.place, len);
-    let near = at_field(
-        field.place,
-        checked_distance::<F>(field.kind, past - from, distance),
-    )?;
-    Ok(near)
+    let distance = wanted.ok_or(Refusal::at(field.place, Reason::Unbound))?;
+    let (from, past) = window::<F>(field, len);
+    checked_distance::<F>(field.kind, past - from, distance).map_err(|cause| cause.at(field.place))
 }
 
 /// The same, by the family of the use's target.
@@ -91,15 +88,14 @@ fn plan_use<L: FieldPatch, S: FieldPatch>(
 /// Checks every use, in their order, by the family of its target.
 fn check<L: FieldPatch, S: FieldPatch>(
     uses: &[Use],
-    labels: &LabelBook,
-    symbols: &[i64],
+    places: &Places,
     code: &[u8],
 ) -> Result<(), Refusal>
-    ensures answers { result ≡ answered (uses_refusal (family L.FieldRead.fields L.FieldPatch.patched) (family S.FieldRead.fields S.FieldPatch.patched) (place_of (labels_in labels.now) symbols.now) code.now uses.now) tt }
+    ensures answers { result ≡ answered (uses_refusal (family L.FieldRead.fields L.FieldPatch.patched) (family S.FieldRead.fields S.FieldPatch.patched) (place_of (labels_in places.now.labels.now) places.now.symbols.now) code.now uses.now) tt }
     ensures bytes { Bytes code.now }
 {
     for field in uses {
-        let wanted = distance_of(field, labels, symbols);
+        let wanted = places.distance_of(field);
         let _ = plan_use::<L, S>(field, wanted, code.len())?;
     }
     Ok(())
@@ -110,12 +106,9 @@ fn fill_one<F: FieldPatch>(field: &Use, wanted: Option<i128>, code: &mut [u8])
     ensures { code.new ≡ filled (family F.FieldRead.fields F.FieldPatch.patched) field.now code.old wanted }
 {
     let len = code.len();
-    match plan::<F>(field, wanted, len) {
-        Ok(distance) => {
-            let (from, past) = window::<F>(field.kind, field.place, len);
-            let _ = F::patch(field.kind, &mut code[from..past], distance);
-        }
-        Err(_) => {}
+    if let Ok(distance) = plan::<F>(field, wanted, len) {
+        let (from, past) = window::<F>(field, len);
+        let _ = F::patch(field.kind, &mut code[from..past], distance);
     }
 }
 
@@ -130,16 +123,11 @@ fn fill_use<L: FieldPatch, S: FieldPatch>(field: &Use, wanted: Option<i128>, cod
 }
 
 /// Fills the field of each use, in their order.
-fn fill<L: FieldPatch, S: FieldPatch>(
-    uses: &[Use],
-    labels: &LabelBook,
-    symbols: &[i64],
-    code: &mut [u8],
-)
-    ensures { code.new ≡ patched_all (family L.FieldRead.fields L.FieldPatch.patched) (family S.FieldRead.fields S.FieldPatch.patched) (place_of (labels_in labels.now) symbols.now) code.old uses.now }
+fn fill<L: FieldPatch, S: FieldPatch>(uses: &[Use], places: &Places, code: &mut [u8])
+    ensures { code.new ≡ patched_all (family L.FieldRead.fields L.FieldPatch.patched) (family S.FieldRead.fields S.FieldPatch.patched) (place_of (labels_in places.now.labels.now) places.now.symbols.now) code.old uses.now }
 {
     for field in uses {
-        let wanted = distance_of(field, labels, symbols);
+        let wanted = places.distance_of(field);
         fill_use::<L, S>(field, wanted, code);
     }
 }
@@ -148,13 +136,12 @@ fn fill<L: FieldPatch, S: FieldPatch>(
 /// refusal, at the use's instruction; refused, the code stays as it is.
 pub fn settle<L: FieldPatch, S: FieldPatch>(
     uses: &[Use],
-    labels: &LabelBook,
-    symbols: &[i64],
+    places: &Places,
     code: &mut [u8],
 ) -> Result<(), Refusal>
-    ensures { Settles (family L.FieldRead.fields L.FieldPatch.patched) (family S.FieldRead.fields S.FieldPatch.patched) (labels_in labels.now) symbols.now uses.now code.old result code.new }
+    ensures { Settles (family L.FieldRead.fields L.FieldPatch.patched) (family S.FieldRead.fields S.FieldPatch.patched) (labels_in places.now.labels.now) places.now.symbols.now uses.now code.old result code.new }
 {
-    check::<L, S>(uses, labels, symbols, code)?;
-    fill::<L, S>(uses, labels, symbols, code);
+    check::<L, S>(uses, places, code)?;
+    fill::<L, S>(uses, places, code);
     Ok(())
 }

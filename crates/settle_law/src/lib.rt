@@ -5,8 +5,6 @@
 ghost use Rattle.settle_law.specs.Settled.{SettlingFills};
 
 /// After settling every field that was zero, and shares no byte with another, holds its distance; outside the fields no byte is changed.
-pub fn settling_fills() -> u8
+pub fn settling_fills()
     ensures { SettlingFills }
-{
-    0
-}
+{}

@@ -7,4 +7,4 @@ use Rattle.settle.proofs.check.Given as goal
 
 abbrev pub invariant-loop-field : goal.invariant-loop-field
 invariant-loop-field g l =
-    uses_refusal (family g.L.FieldRead.fields g.L.FieldPatch.patched) (family g.S.FieldRead.fields g.S.FieldPatch.patched) (place_of (labels_in l.labels) l.symbols) l.code (take l.field-index l.uses) ≡ None
+    uses_refusal (family g.L.FieldRead.fields g.L.FieldPatch.patched) (family g.S.FieldRead.fields g.S.FieldPatch.patched) (place_of (labels_in l.places.labels.now) l.places.symbols.now) l.code (take l.field-index l.uses) ≡ None

@@ -12,6 +12,6 @@ returns-in-Ok g c =
     c.window-from.result.0 c.window-from.result.1 c.patch.new.bytes c.in-Ok.ensures (to_z-of_z w64 d f)
     c.window-from.ensures.from c.window-from.ensures.past c.patch.auto.bytes c.patch.ensures.leaves
 
-pub returns-in-Err : goal.returns-in-Err
-returns-in-Err g c =
-    unfilled (family g.F.FieldRead.fields g.F.FieldPatch.patched) c.args.field.now c.args.code.now c.args.wanted c.in-Err.field-0 c.in-Err.ensures
+pub returns-in_default : goal.returns-in_default
+returns-in_default g c =
+    unfilled (family g.F.FieldRead.fields g.F.FieldPatch.patched) c.args.field.now c.args.code.now c.args.wanted c.in_default.field-0 c.in_default.ensures
