@@ -1,5 +1,5 @@
 -- Lemmas on planning an access.
-use Rattle.std.proofs.Common.{◌≡◌, ℕ, Bool, true, false, cond, not, ◌||◌, List, [], ◌∷◌, ◌++◌, pos, Some, None, Ok, Err, Option, sym, refl, ap, ◌∙◌, subst, append-nil, arith}
+use Rattle.std.proofs.Common.{◌≡◌, Bool, true, false, cond, not, ◌||◌, List, [], ◌∷◌, ◌++◌, pos, Some, None, Ok, Err, Option, sym, refl, ap, ◌∙◌, subst, append-nil}
 use Rattle.std.specs.Option.{MatchOption}
 use Rattle.refusal.specs.declared.Reason.{Reason}
 use Rattle.refusal.specs.declared.Reason.TheVariants as why
@@ -77,17 +77,17 @@ helped Q (Some h) r m k = k h m ∙ one (helper_of h)
 
 helpers_written : (f s : Option args.Helper) (hs : Helpers) → helpers_in f s ≡ Some hs → first_at (first_in f) ++ first_at (first_in s) ≡ helper_instrs (list_of hs)
 helpers_written None None hs e = let p : no_helper ≡ hs = cc in rw (sym p)
-helpers_written None (Some k) hs e = let z : ◌≡◌ {A = ℕ} 0 1 = cc in absurd (omega arith)
+helpers_written None (Some k) hs e = cc
 helpers_written (Some h) None hs e = go (helper_of h) e
   where
     go : (o : Option Helper) → when_some one_helper o ≡ Some hs → first_at (when_some (λ k. Some k) o) ++ [] ≡ helper_instrs (list_of hs)
-    go None e = let z : ◌≡◌ {A = ℕ} 0 1 = cc in absurd (omega arith)
+    go None e = cc
     go (Some k) e = let p : one_helper k ≡ hs = cc in rw (sym p)
 helpers_written (Some h) (Some k) hs e = go (helper_of h) (helper_of k) e
   where
     go : (o u : Option Helper) → both two_helpers o u ≡ Some hs → first_at (when_some (λ k. Some k) o) ++ first_at (when_some (λ k. Some k) u) ≡ helper_instrs (list_of hs)
-    go None u e = let z : ◌≡◌ {A = ℕ} 0 1 = cc in absurd (omega arith)
-    go (Some x) None e = let z : ◌≡◌ {A = ℕ} 0 1 = cc in absurd (omega arith)
+    go None u e = cc
+    go (Some x) None e = cc
     go (Some x) (Some y) e = let p : two_helpers x y ≡ hs = cc in rw (sym p) (ap (λ ws. helper_instr x ++ ws) (sym (append-nil (helper_instr y))))
 
 -- The checks.
@@ -156,8 +156,7 @@ module _ (a : Access) (t : Bool) (m : MemArg) (fr : frame.Frame) (lost : Bool) w
         let u = none_refused (address_checks standard (plan standard a t m fr) ++ why.Label when lost ∷ target_checks (plan standard a t m fr)) free in
         let one = one_access standard refl a t m fr u.1.1.1.1.1.1.1.0 u.1.1.1.1.0 in
         let c : [] ≡ one.0 ∷ [] = l ∙ ap (access_at a) parts.1 ∙ one.1 in
-        let z : ◌≡◌ {A = ℕ} 0 1 = cc in
-        omega arith
+        cc
 
     pub plan_reaches : (ws : List Aimed) → Ok ws ≡ answered here (plan standard a t m fr).items → Reaching standard (mode standard fr m) ws
     plan_reaches ws w = subst (Reaching standard (mode standard fr m)) (sym (answered_ok here _ _ w).1) (accesses_reach standard refl a t m fr lost free)

@@ -1,5 +1,5 @@
 -- Lemmas on finalizing.
-use Rattle.std.proofs.Common.{◌≡◌, ℕ, ◌^◌, ◌<◌, Bool, true, false, cond, leb, List, [], ◌∷◌, ◌++◌, ℤ, pos, Some, None, Ok, Err, Option, Result, refl, ap, ◌∙◌, arith, w64, SFits}
+use Rattle.std.proofs.Common.{◌≡◌, ◌^◌, ◌<◌, Bool, true, false, cond, leb, List, [], ◌∷◌, ◌++◌, ℤ, pos, Some, None, Ok, Err, Option, Result, refl, ap, ◌∙◌, arith, w64, SFits}
 use Rattle.std.proofs.lemmas.Int.{ints}
 use Rattle.std.proofs.lemmas.Bool.Decides.{nat_tests}
 use Rattle.std.specs.Option.{SomeIff}
@@ -44,7 +44,7 @@ sum_is v z (Some x) small e h =
     rw (f, y, h.1, e)
 
 pub resolve_some : (C : Convention) (md : Mode) (v : Offset) (x : Result (Option (Option Helper × Address)) Reason) → offset_of md ≡ Some v → x ≡ resolve_answer C (virtual v) → x ≡ resolve_answer C md
-resolve_some C (real a) v x e h = let z : ◌≡◌ {A = ℕ} 0 1 = cc in absurd (omega arith)
+resolve_some C (real a) v x e h = cc
 resolve_some C (virtual w) v x e h = let s : w ≡ v = cc in rw s h
 
 -- Loading.
@@ -76,12 +76,12 @@ flags_held (BXD20 b x d fl) fr a e = cc
 flags_held (Label l) fr a e = cc
 flags_held (Constant l) fr a e = cc
 flags_held (Symbol n o fl) fr a e = cc
-flags_held (RegOffset r o fl) fr a e = let z : ◌≡◌ {A = ℕ} 0 1 = cc in absurd (omega arith)
-flags_held (InitialSPOffset o) fr a e = let z : ◌≡◌ {A = ℕ} 0 1 = cc in absurd (omega arith)
-flags_held (IncomingArgOffset o) fr a e = let z : ◌≡◌ {A = ℕ} 0 1 = cc in absurd (omega arith)
-flags_held (OutgoingArgOffset o) fr a e = let z : ◌≡◌ {A = ℕ} 0 1 = cc in absurd (omega arith)
-flags_held (SlotOffset o) fr a e = let z : ◌≡◌ {A = ℕ} 0 1 = cc in absurd (omega arith)
-flags_held (SpillOffset o) fr a e = let z : ◌≡◌ {A = ℕ} 0 1 = cc in absurd (omega arith)
+flags_held (RegOffset r o fl) fr a e = cc
+flags_held (InitialSPOffset o) fr a e = cc
+flags_held (IncomingArgOffset o) fr a e = cc
+flags_held (OutgoingArgOffset o) fr a e = cc
+flags_held (SlotOffset o) fr a e = cc
+flags_held (SpillOffset o) fr a e = cc
 
 then_value : {X : Type 0} (f : Address → X) (x : X) (a : Address) → when_some f (Some a) ≡ when_some (λ _. x) (Some a) → f a ≡ x
 then_value f x a e = cc
@@ -119,10 +119,10 @@ load_done mi first mem left rd fl out fr t h l f n =
 
 pub answered_ok : {X E : Type 0} (p : Option E) (x y : X) → Ok y ≡ answered p x → (p ≡ None) × (y ≡ x)
 answered_ok None x y h = (refl, cc)
-answered_ok (Some r) x y h = let z : ◌≡◌ {A = ℕ} 0 1 = cc in absurd (omega arith)
+answered_ok (Some r) x y h = cc
 
 pub answered_err : {X E : Type 0} (p : Option E) (x : X) (e : E) → Err e ≡ answered p x → p ≡ Some e
-answered_err None x e h = let z : ◌≡◌ {A = ℕ} 0 1 = cc in absurd (omega arith)
+answered_err None x e h = cc
 answered_err (Some r) x e h = cc
 
 abbrev pub or_else : Option Reason → Option Reason → Option Reason
@@ -162,8 +162,8 @@ pub steps_first : {Y : Type 0} (C : Convention) (mi : MemInstType) (fr : frame.F
 steps_first C mi fr m e y h = rw (steps_split C mi fr m, answered_err (first_refusal (mode_checks C (mode C fr m))) _ e h)
 
 pub both_some : (u : Option Helpers) (o : Option Address) (x : Helpers × Address) → both (λ hs a. (hs, a)) u o ≡ Some x → (u ≡ Some x.0) × (o ≡ Some x.1)
-both_some None o x e = let z : ◌≡◌ {A = ℕ} 0 1 = cc in absurd (omega arith)
-both_some (Some hs) None x e = let z : ◌≡◌ {A = ℕ} 0 1 = cc in absurd (omega arith)
+both_some None o x e = cc
+both_some (Some hs) None x e = cc
 both_some (Some hs) (Some a) x e = let p : (hs, a) ≡ x = cc in (ap {B = Option Helpers} (λ q. Some q.0) p, ap {B = Option Address} (λ q. Some q.1) p)
 
 module _ (C : Convention) (mi : MemInstType) (fr : frame.Frame) (m : MemArg) (first : Option args.Helper) (mem mem' : MemArg) (out : pair.Helpers) where
@@ -205,8 +205,8 @@ placed_by P (Err e) out k h = let p = err_from_is_err_and out h in p.1 ∙ ap Er
 
 placed_answer : {X Y : Type 0} (f : X → Option Y) (p : Option Reason) (y : Y) (r : Result X Reason) → when_ok f r ≡ answered p (Some y) → when_ok f (placed r) ≡ when_ok (λ y. Some y) (answer 0 p y)
 placed_answer f None y (Ok x) h = cc
-placed_answer f None y (Err e) h = let z : ◌≡◌ {A = ℕ} 0 1 = cc in absurd (omega arith)
-placed_answer f (Some q) y (Ok x) h = let z : ◌≡◌ {A = ℕ} 0 1 = cc in absurd (omega arith)
+placed_answer f None y (Err e) h = cc
+placed_answer f (Some q) y (Ok x) h = cc
 placed_answer f (Some q) y (Err e) h = let s : e ≡ q = cc in rw s
 
 module _ (mi : MemInstType) (fr : frame.Frame) (m : MemArg) where

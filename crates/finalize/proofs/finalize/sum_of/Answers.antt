@@ -6,7 +6,7 @@ use Rattle.finalize.proofs.finalize.sum_of.Goals as goal
 
 narrowed : {E : Type 0} (r : Result ℕ E) (n x : ℕ) → OkIff r (n < 2 ^ 32) n → Some x ≡ result_ok r → (n < 2 ^ 32) × (x ≡ n)
 narrowed (Ok y) n x h i = let e : x ≡ y = cc in (h.0, e ∙ h.1)
-narrowed (Err e) n x h i = let z : ◌≡◌ {A = ℕ} 0 1 = cc in absurd (omega arith)
+narrowed (Err e) n x h i = cc
 
 pub returns : goal.returns
 returns c =
