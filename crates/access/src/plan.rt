@@ -222,6 +222,7 @@ pub fn plan(request: &MemAccess, lost_label: bool) -> Result<AccessPlan, Reason>
     ensures reaches { IfOk result (λ p. Reaching standard (mode standard request.now.frame.now request.now.mem) (items_of p)) }
 {
     let (helpers, left) = checked(request, lost_label)?;
+    // what passes the checks has a form, so this refuses nothing
     let access = accessing(&request.access, &left).ok_or(Reason::Form)?;
     Ok(AccessPlan {
         first: helpers.first.and_then(helping),

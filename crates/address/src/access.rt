@@ -55,7 +55,7 @@ pub struct MemAccess<'a> {
     pub frame: &'a Frame,
 }
 
-// What an instruction has besides the addressing that is named at it.
+// No addressing: what an access has of the kinds that it does not name.
 const NO_ADDRESSING: MemInstType = MemInstType {
     have_d12: false,
     have_d20: false,
