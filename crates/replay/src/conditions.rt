@@ -1,22 +1,15 @@
 use crate::Answered;
-use crate::answer::Answer;
 use crate::fault::Fault;
-use crate::words::{Args, Argument};
+use crate::words::Args;
 use condition::cond::Cond;
 use condition::condcodes::{CondCode, IntCC};
 
 /// Conditions of branches.
 pub fn mask(name: &str, args: &mut Args) -> Answered {
     match name {
-        "cond_from_mask" => match Cond::from_mask(args.read()?) {
-            Ok(cond) => Ok(cond.into()),
-            Err(refusal) => Ok(refusal.into()),
-        },
-        "cond_invert" => match Cond::from_mask(args.read()?) {
-            Ok(cond) => Ok(cond.invert().into()),
-            Err(refusal) => Ok(refusal.into()),
-        },
-        "cond_from_intcc" => Ok(Cond::from_intcc(args.read()?).into()),
+        "cond_from_mask" => args.answer(|mask| Cond::from_mask(mask)),
+        "cond_invert" => args.answer(|mask| Cond::from_mask(mask).map(|cond| cond.invert())),
+        "cond_from_intcc" => args.answer(|cc| Cond::from_intcc(cc)),
         _ => Err(Fault::UnknownCommand),
     }
 }
@@ -24,11 +17,11 @@ pub fn mask(name: &str, args: &mut Args) -> Answered {
 /// Comparisons of integers.
 pub fn comparison(name: &str, args: &mut Args) -> Answered {
     match name {
-        "intcc_all" => Ok(Answer::AllConditions),
-        "intcc_complement" => Ok(args.read::<IntCC>()?.complement().into()),
-        "intcc_swap_args" => Ok(args.read::<IntCC>()?.swap_args().into()),
-        "intcc_without_equal" => Ok(args.read::<IntCC>()?.without_equal().into()),
-        "intcc_unsigned" => Ok(args.read::<IntCC>()?.unsigned().into()),
+        "intcc_all" => args.answer(|()| IntCC::all()),
+        "intcc_complement" => args.answer(|cc: IntCC| cc.complement()),
+        "intcc_swap_args" => args.answer(|cc: IntCC| cc.swap_args()),
+        "intcc_without_equal" => args.answer(|cc: IntCC| cc.without_equal()),
+        "intcc_unsigned" => args.answer(|cc: IntCC| cc.unsigned()),
         _ => Err(Fault::UnknownCommand),
     }
 }

@@ -1,25 +1,16 @@
+use hex::FromHexError;
+use std::alloc::AllocError;
 use std::fmt;
 
-/// The types of numbers that a line can ask for.
-#[derive(Clone, Copy)]
-pub enum NumberType {
-    U8,
-    U16,
-    U32,
-    U64,
-    I16,
-    I32,
-    I64,
-}
-
-/// What is wrong with a line.
-#[derive(Clone, Copy)]
+/// What is wrong with a line, or that there is no memory for its answer.
+#[derive(Clone, Copy, PartialEq, Eq, Debug)]
 pub enum Fault {
     UnknownCommand,
     MissingArgument,
     TooManyArguments,
     NotNumber,
-    OutOfRange(NumberType),
+    /// of the type that has this name
+    OutOfRange(&'static str),
     OutsideUImm12,
     OutsideSImm20,
     NotRegister,
@@ -28,27 +19,29 @@ pub enum Fault {
     UnknownAddress,
     UnknownForm,
     NotBytes,
+    OutOfMemory,
+}
+
+impl From<AllocError> for Fault {
+    fn from(_: AllocError) -> Fault {
+        Fault::OutOfMemory
+    }
+}
+
+impl From<FromHexError> for Fault {
+    fn from(error: FromHexError) -> Fault {
+        match error {
+            FromHexError::OutOfMemory => Fault::OutOfMemory,
+            _ => Fault::NotBytes,
+        }
+    }
 }
 
 /// A fault with the word that it was found at.
-#[derive(Clone, Copy)]
+#[derive(Clone, Copy, PartialEq, Eq, Debug)]
 pub struct Found<'a> {
     pub fault: Fault,
     pub word: &'a str,
-}
-
-impl NumberType {
-    fn name(self) -> &'static str {
-        match self {
-            NumberType::U8 => "u8",
-            NumberType::U16 => "u16",
-            NumberType::U32 => "u32",
-            NumberType::U64 => "u64",
-            NumberType::I16 => "i16",
-            NumberType::I32 => "i32",
-            NumberType::I64 => "i64",
-        }
-    }
 }
 
 impl<'a> fmt::Display for Found<'a> {
@@ -59,10 +52,7 @@ impl<'a> fmt::Display for Found<'a> {
             Fault::MissingArgument => f.write_str("missing argument"),
             Fault::TooManyArguments => f.write_str("too many arguments"),
             Fault::NotNumber => write!(f, "not a number: {word}"),
-            Fault::OutOfRange(of) => {
-                let name = of.name();
-                write!(f, "{word} out of range of {name}")
-            }
+            Fault::OutOfRange(of) => write!(f, "{word} out of range of {of}"),
             Fault::OutsideUImm12 => f.write_str("outside UImm12"),
             Fault::OutsideSImm20 => f.write_str("outside SImm20"),
             Fault::NotRegister => write!(f, "not a register: {word}"),
@@ -71,6 +61,7 @@ impl<'a> fmt::Display for Found<'a> {
             Fault::UnknownAddress => write!(f, "unknown address form {word}"),
             Fault::UnknownForm => write!(f, "unknown form {word}"),
             Fault::NotBytes => write!(f, "not bytes: {word}"),
+            Fault::OutOfMemory => f.write_str("out of memory"),
         }
     }
 }

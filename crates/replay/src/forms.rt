@@ -86,10 +86,5 @@ pub fn name_of(form: Form) -> &'static str {
 
 /// The form that has this name.
 pub fn form_of(name: &str) -> Option<Form> {
-    for form in FORMS {
-        if name_of(form) == name {
-            return Some(form);
-        }
-    }
-    None
+    FORMS.iter().copied().find(|form| name_of(*form) == name)
 }

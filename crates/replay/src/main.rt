@@ -14,7 +14,6 @@
 #![tactic(auto)]
 
 use address::frame::Frame;
-use answer::Answer;
 use catalogue::catalogue::Catalogue;
 use fault::{Fault, Found};
 use refusal::Refusal;
@@ -32,12 +31,10 @@ mod fault;
 mod forms;
 mod immediates;
 mod registers;
-mod shown;
 mod words;
-mod written;
 
-/// What a command answers, or what is wrong with its line.
-type Answered = Result<Answer, Fault>;
+/// A command's answer as text, or what is wrong with its line.
+type Answered = Result<String, Fault>;
 
 /// What stays from one line to the next.
 #[derive(Drop)]
@@ -49,7 +46,6 @@ struct State {
 
 impl State {
     fn new(heap: Global) -> Result<State, Refusal> {
-        let catalogue = Catalogue::new(heap)?;
         Ok(State {
             frame: Frame {
                 incoming_args_size: 0,
@@ -60,19 +56,20 @@ impl State {
                 nominal_sp_offset: 0,
                 outgoing_sp_offset: 0,
             },
-            catalogue,
+            catalogue: Catalogue::new(heap)?,
         })
     }
 }
 
 /// Hands a command to the group that its name belongs to.
 fn dispatch(state: &mut State, name: &str, args: &mut Args) -> Answered {
-    let (group, _) = name.split_once('_').unwrap_or((name, ""));
+    let (group, call) = name.split_once('_').unwrap_or((name, ""));
     match group {
         "enc" => encoders::answer(name, args),
         "rxb" | "machreg" => registers::answer(name, args),
         "uimm12" | "simm20" => immediates::displacement(name, args),
-        "u16s" | "u32s" => immediates::shifted(name, args),
+        "u16s" => immediates::shifted::<u16>(call, args),
+        "u32s" => immediates::shifted::<u32>(call, args),
         "cond" => conditions::mask(name, args),
         "intcc" => conditions::comparison(name, args),
         "state" | "mem" | "memarg" => addresses::answer(state, name, args),
@@ -91,7 +88,7 @@ fn answer_whole(state: &mut State, name: &str, args: &mut Args) -> Answered {
 /// Answers a line, if it has words.
 fn respond(rt: &HostRuntime, state: &mut State, line: &str) -> io::Result<()> {
     let (text, _) = line.split_once('#').unwrap_or((line, ""));
-    let mut args = Args::new(text);
+    let mut args = Args::new(rt.alloc(), text);
     let Ok(name) = args.word() else {
         return Ok(());
     };

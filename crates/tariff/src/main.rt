@@ -7,7 +7,7 @@ use condition::cond::Cond;
 use condition::condcodes::IntCC;
 use enc_imm::{enc_ri_a, enc_ri_c, enc_ril_a};
 use enc_mem::enc_rr;
-use operand::reg::{Reg, RegClass};
+use operand::reg::gpr;
 use std::io;
 
 const LGHI: u16 = 0xa79;
@@ -27,15 +27,13 @@ const RETURN: u8 = 14;
 /// A band of the routine: compare, branch past it, load the price, return.
 const BAND_SIZE: i32 = 16;
 
-fn general(number: u8) -> Reg {
-    Reg {
-        class: RegClass::Int,
-        number,
-    }
-}
-
-/// Prints one instruction and answers where the next one stands.
-fn show(rt: &HostRuntime, place: u32, text: &str, bytes: &[u8], refused: u8) -> io::Result<u32> {
+/// Prints one instruction, as its encoder answers it, and answers where the next one stands.
+fn show<const N: usize>(
+    rt: &HostRuntime,
+    place: u32,
+    text: &str,
+    (bytes, refused): ([u8; N], u8),
+) -> io::Result<u32> {
     if refused != 0 {
         println!(rt; "{place:4}  refused {refused:<9} {text}")?;
         return Ok(place);
@@ -54,25 +52,27 @@ fn show(rt: &HostRuntime, place: u32, text: &str, bytes: &[u8], refused: u8) -> 
 /// Up to `grams` the price is `cents`: where the weight is higher, control goes on past the band.
 fn band(rt: &HostRuntime, place: u32, grams: u32, cents: u16) -> io::Result<u32> {
     let higher = Cond::from_intcc(IntCC::UnsignedGreaterThan).bits();
-    let (compare, refused) = enc_ril_a(CLGFI, general(WEIGHT), grams);
-    let next = show(rt, place, "clgfi  weight, grams", &compare, refused)?;
-    let (branch, refused) = enc_ri_c(BRC, higher, BAND_SIZE - 6);
-    let next = show(rt, next, "brc    high, next band", &branch, refused)?;
-    let (load, refused) = enc_ri_a(LGHI, general(PRICE), cents);
-    let next = show(rt, next, "lghi   price, cents", &load, refused)?;
+    let compare = enc_ril_a(CLGFI, gpr(WEIGHT), grams);
+    let next = show(rt, place, "clgfi  weight, grams", compare)?;
+    let branch = enc_ri_c(BRC, higher, BAND_SIZE - 6);
+    let next = show(rt, next, "brc    high, next band", branch)?;
+    let next = load_price(rt, next, "lghi   price, cents", cents)?;
     give_back(rt, next)
 }
 
+fn load_price(rt: &HostRuntime, place: u32, text: &str, cents: u16) -> io::Result<u32> {
+    show(rt, place, text, enc_ri_a(LGHI, gpr(PRICE), cents))
+}
+
 fn give_back(rt: &HostRuntime, place: u32) -> io::Result<u32> {
-    let (back, refused) = enc_rr(BCR, general(15), general(RETURN));
-    show(rt, place, "bcr    always, return", &back, refused)
+    let back = enc_rr(BCR, gpr(15), gpr(RETURN));
+    show(rt, place, "bcr    always, return", back)
 }
 
 fn main(rt: HostRuntime) -> io::Result<()> {
     let next = band(&rt, 0, 500, 350)?;
     let next = band(&rt, next, 2000, 590)?;
-    let (load, refused) = enc_ri_a(LGHI, general(PRICE), 0xffff);
-    let next = show(&rt, next, "lghi   price, -1", &load, refused)?;
+    let next = load_price(&rt, next, "lghi   price, -1", 0xffff)?;
     let size = give_back(&rt, next)?;
     println!(rt; "{size} bytes")
 }

@@ -1,4 +1,4 @@
-use crate::fault::{Fault, NumberType};
+use crate::fault::Fault;
 use crate::words::{Args, Argument};
 
 /// A decimal number, or a hexadecimal one after `0x`.
@@ -18,65 +18,61 @@ fn number(word: &str) -> Option<i128> {
     }
 }
 
-impl Argument for i128 {
-    fn read(args: &mut Args) -> Result<i128, Fault> {
-        number(args.word()?).ok_or(Fault::NotNumber)
-    }
+/// A number of the type that has this name.
+fn in_range<T: TryFrom<i128>>(args: &mut Args, name: &'static str) -> Result<T, Fault>
+where
+    T::Error: Drop,
+{
+    let value = number(args.word()?).ok_or(Fault::NotNumber)?;
+    T::try_from(value).map_err(|_| Fault::OutOfRange(name))
 }
 
 impl Argument for u8 {
     fn read(args: &mut Args) -> Result<u8, Fault> {
-        u8::try_from(args.read::<i128>()?)
-            .ok()
-            .ok_or(Fault::OutOfRange(NumberType::U8))
+        in_range(args, "u8")
     }
 }
 
 impl Argument for u16 {
     fn read(args: &mut Args) -> Result<u16, Fault> {
-        u16::try_from(args.read::<i128>()?)
-            .ok()
-            .ok_or(Fault::OutOfRange(NumberType::U16))
+        in_range(args, "u16")
     }
 }
 
 impl Argument for u32 {
     fn read(args: &mut Args) -> Result<u32, Fault> {
-        u32::try_from(args.read::<i128>()?)
-            .ok()
-            .ok_or(Fault::OutOfRange(NumberType::U32))
+        in_range(args, "u32")
     }
 }
 
 impl Argument for u64 {
     fn read(args: &mut Args) -> Result<u64, Fault> {
-        u64::try_from(args.read::<i128>()?)
-            .ok()
-            .ok_or(Fault::OutOfRange(NumberType::U64))
+        in_range(args, "u64")
     }
 }
 
 impl Argument for i16 {
     fn read(args: &mut Args) -> Result<i16, Fault> {
-        i16::try_from(args.read::<i128>()?)
-            .ok()
-            .ok_or(Fault::OutOfRange(NumberType::I16))
+        in_range(args, "i16")
     }
 }
 
 impl Argument for i32 {
     fn read(args: &mut Args) -> Result<i32, Fault> {
-        i32::try_from(args.read::<i128>()?)
-            .ok()
-            .ok_or(Fault::OutOfRange(NumberType::I32))
+        in_range(args, "i32")
     }
 }
 
 impl Argument for i64 {
     fn read(args: &mut Args) -> Result<i64, Fault> {
-        i64::try_from(args.read::<i128>()?)
-            .ok()
-            .ok_or(Fault::OutOfRange(NumberType::I64))
+        in_range(args, "i64")
+    }
+}
+
+/// A label, a constant or a symbol: any number of 32 bits.
+impl Argument for usize {
+    fn read(args: &mut Args) -> Result<usize, Fault> {
+        Ok(args.read::<u32>()? as usize)
     }
 }
 
@@ -84,20 +80,5 @@ impl Argument for i64 {
 impl Argument for bool {
     fn read(args: &mut Args) -> Result<bool, Fault> {
         Ok(args.read::<u8>()? != 0)
-    }
-}
-
-/// `-` is no number.
-impl Argument for Option<u16> {
-    fn read(args: &mut Args) -> Result<Option<u16>, Fault> {
-        let word = args.word()?;
-        if word == "-" {
-            return Ok(None);
-        }
-        let size = number(word).ok_or(Fault::NotNumber)?;
-        match u16::try_from(size) {
-            Ok(size) => Ok(Some(size)),
-            Err(_) => Err(Fault::OutOfRange(NumberType::U16)),
-        }
     }
 }

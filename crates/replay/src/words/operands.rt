@@ -1,50 +1,31 @@
 use crate::fault::Fault;
 use crate::words::{Args, Argument};
 use condition::condcodes::IntCC;
-use operand::imms::{SImm20, UImm12};
-use operand::reg::{Reg, RegClass};
+use operand::imms::digits::Digit;
+use operand::imms::{SImm20, Shifted, UImm12};
+use operand::reg::{Reg, gpr, vr};
 
 /// An integer register `i` or a float register `f` with its number. Any number up to 255 is taken: whether there is such a register is for
 /// the command to say.
 fn register(word: &str) -> Option<Reg> {
-    if let Some(digits) = word.strip_prefix('i') {
-        return Some(Reg {
-            class: RegClass::Int,
-            number: digits.parse::<u8>().ok()?,
-        });
+    let (class, digits) = word.split_at_checked(1)?;
+    let number = digits.parse::<u8>().ok()?;
+    match class {
+        "i" => Some(gpr(number)),
+        "f" => Some(vr(number)),
+        _ => None,
     }
-    let digits = word.strip_prefix('f')?;
-    Some(Reg {
-        class: RegClass::Float,
-        number: digits.parse::<u8>().ok()?,
-    })
 }
 
 impl Argument for Reg {
     fn read(args: &mut Args) -> Result<Reg, Fault> {
-        let word = args.word()?;
-        register(word).ok_or(Fault::NotRegister)
-    }
-}
-
-/// `-` is no register.
-impl Argument for Option<Reg> {
-    fn read(args: &mut Args) -> Result<Option<Reg>, Fault> {
-        let word = args.word()?;
-        if word == "-" {
-            return Ok(None);
-        }
-        match register(word) {
-            Some(reg) => Ok(Some(reg)),
-            None => Err(Fault::NotRegister),
-        }
+        register(args.word()?).ok_or(Fault::NotRegister)
     }
 }
 
 impl Argument for IntCC {
     fn read(args: &mut Args) -> Result<IntCC, Fault> {
-        let word = args.word()?;
-        word.parse::<IntCC>().ok().ok_or(Fault::NotCondition)
+        args.word()?.parse().map_err(|_| Fault::NotCondition)
     }
 }
 
@@ -57,5 +38,12 @@ impl Argument for UImm12 {
 impl Argument for SImm20 {
     fn read(args: &mut Args) -> Result<SImm20, Fault> {
         SImm20::maybe_from_i64(args.read()?).ok_or(Fault::OutsideSImm20)
+    }
+}
+
+/// The bits and the shift.
+impl<T: Digit + Argument> Argument for Shifted<T> {
+    fn read(args: &mut Args) -> Result<Shifted<T>, Fault> {
+        args.read().map(|(bits, shift)| Shifted { bits, shift })
     }
 }
