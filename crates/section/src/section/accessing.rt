@@ -37,13 +37,6 @@ fn check_opcodes(catalogue: &Catalogue, access: &Access) -> Result<(), Reason>
     Ok(())
 }
 
-/// Whether an address is aimed at a label or a symbol.
-fn is_aimed(mem: &MemArg) -> bool
-    ensures { (fr : Frame) → result ≡ leaves_use (target_of (mode standard fr mem.now)) }
-{
-    matches!(*mem, MemArg::Label { .. } | MemArg::Symbol { .. })
-}
-
 impl<L, S> Section<L, S> {
     /// Whether an address names a label that is not reserved, or given up.
     fn names_lost(&self, mem: &MemArg) -> bool
@@ -104,7 +97,7 @@ impl<L, S> Section<L, S> {
         let plan = self
             .planned(catalogue, request)
             .map_err(|reason| Refusal::at(self.len, reason))?;
-        self.space(is_aimed(&request.mem), plan.size())?;
+        self.space(request.mem.target().is_some(), plan.size())?;
         self.write_plan(code, &plan);
         Ok(())
     }
