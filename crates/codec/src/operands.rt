@@ -10,11 +10,8 @@ fn is_in(kind: OperandKind, z: i64) -> bool
     ensures { result ≡ In kind z }
 {
     match kind {
-        OperandKind::G => 0 <= z && z < 16,
-        OperandKind::N => 0 <= z && z < 16,
+        OperandKind::G | OperandKind::N | OperandKind::F | OperandKind::M => 0 <= z && z < 16,
         OperandKind::V => 0 <= z && z < 32,
-        OperandKind::F => 0 <= z && z < 16,
-        OperandKind::M => 0 <= z && z < 16,
         OperandKind::U8 => 0 <= z && z < 256,
         OperandKind::U16 => 0 <= z && z < 65536,
         OperandKind::U32 => 0 <= z && z < 4294967296,
