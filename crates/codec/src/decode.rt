@@ -27,17 +27,7 @@ fn scaled(x: u8, k: usize) -> u64
     ensures is { result ≡ x * 16 ^ k }
     ensures small { result < 2 ^ 32 }
 {
-    let x = x as u64;
-    match k {
-        0 => x * 1,
-        1 => x * 16,
-        2 => x * 256,
-        3 => x * 4096,
-        4 => x * 65536,
-        5 => x * 1048576,
-        6 => x * 16777216,
-        _ => x * 268435456,
-    }
+    x as u64 * 16u64.pow(k as u32)
 }
 
 /// What a digit of the row says about operand i.

@@ -27,11 +27,9 @@ fn is_in(kind: OperandKind, z: i64) -> bool
 fn is_taken(form: Form, i: usize, z: i64) -> bool
     ensures { result ≡ taken_at (kinds_of form) i z }
 {
-    let kinds = form.kinds();
-    if i < kinds.len() {
-        is_in(kinds[i], z)
-    } else {
-        z == 0
+    match form.kinds().get(i) {
+        Some(kind) => is_in(*kind, z),
+        None => z == 0,
     }
 }
 
