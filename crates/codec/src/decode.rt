@@ -15,11 +15,8 @@ fn nibble(bytes: &[u8], i: usize) -> u8
     ensures is { result ≡ slice_index (nibbles bytes.now) i }
     ensures small { result < 16 }
 {
-    if i % 2 == 0 {
-        bytes[i / 2] / 16
-    } else {
-        bytes[i / 2] % 16
-    }
+    let byte = bytes[i / 2];
+    if i % 2 == 0 { byte / 16 } else { byte % 16 }
 }
 
 fn scaled(x: u8, k: usize) -> u64
@@ -80,7 +77,7 @@ fn ninth(bytes: &[u8]) -> u8
     ensures is { result ≡ slice_index (nibbles bytes.now) 9 }
     ensures small { result < 16 }
 {
-    if bytes.len() < 5 { 0 } else { nibble(bytes, 9) }
+    bytes.get(4).copied().unwrap_or(0) % 16
 }
 
 fn bits(i: usize, row: &[Digit], x: u8) -> u8
