@@ -65,76 +65,68 @@ const MIX: [Instr; 10] = [
 ];
 
 fn mixed(heap: std::alloc::Global) -> Option<Catalogue> {
-    let mut c = Catalogue::new(heap).ok()?;
-    for i in MIX {
-        let _ = c.admit(i.form, i.opcode);
+    let mut catalogue = Catalogue::new(heap).ok()?;
+    for instr in MIX {
+        let _ = catalogue.admit(instr.entry());
     }
-    Some(c)
+    Some(catalogue)
+}
+
+/// The instruction of this turn.
+fn instr_of(turn: u32) -> Instr {
+    MIX[turn as usize % 10]
 }
 
 /// Writes the instruction of this turn.
-fn written(c: &Catalogue, turn: u32) -> Option<Encoded> {
-    let i = MIX[turn as usize % 10];
-    c.write(0, i.form, i.opcode, &i.operands).ok()
+fn written(catalogue: &Catalogue, turn: u32) -> Option<Encoded> {
+    catalogue.write(0, &instr_of(turn)).ok()
 }
 
 /// Writes so many instructions, and answers how many were accepted.
-fn write_all(c: &Catalogue, count: u32) -> u32 {
-    let mut accepted = 0u32;
-    for turn in 0..count {
-        if written(c, turn).is_some() {
-            accepted = accepted.saturating_add(1);
-        }
-    }
-    accepted
+fn write_all(catalogue: &Catalogue, count: u32) -> usize {
+    (0..count)
+        .filter(|turn| written(catalogue, *turn).is_some())
+        .count()
 }
 
 /// Whether the bytes are read as the instruction of this turn.
-fn is_read(c: &Catalogue, turn: u32, code: &Encoded) -> bool {
-    let (answer, _) = c.read_one(&code.bytes, 0);
-    match answer {
-        Ok(Some(read)) => read.instr.operands == MIX[turn as usize % 10].operands,
-        _ => false,
-    }
+fn is_read(catalogue: &Catalogue, turn: u32, code: &Encoded) -> bool {
+    let (answer, _) = catalogue.read_one(code.as_slice(), 0);
+    matches!(answer, Ok(Some(read)) if read.instr == instr_of(turn))
 }
 
 /// Reads so many instructions, and answers how many were as written.
-fn read_all(c: &Catalogue, codes: &[Encoded], count: u32) -> u32 {
-    let mut same = 0u32;
-    for turn in 0..count {
-        let at = turn as usize % 10;
-        if at < codes.len() {
-            if is_read(c, turn, &codes[at]) {
-                same = same.saturating_add(1);
-            }
-        }
-    }
-    same
+fn read_all(catalogue: &Catalogue, codes: &[Encoded], count: u32) -> usize {
+    (0..count)
+        .filter(|turn| {
+            codes
+                .get(*turn as usize % 10)
+                .is_some_and(|code| is_read(catalogue, *turn, code))
+        })
+        .count()
 }
 
 fn wanted(rt: &HostRuntime) -> io::Result<u32> {
-    match env::args(rt)?.nth(1) {
-        Some(text) => Ok(text.parse::<u32>().unwrap_or(1_000_000)),
-        None => Ok(1_000_000),
-    }
+    let text = env::args(rt)?.nth(1);
+    Ok(text.and_then(|text| text.parse().ok()).unwrap_or(1_000_000))
 }
 
 fn main(rt: HostRuntime) -> io::Result<()> {
     let count = wanted(&rt)?;
-    let Some(c) = mixed(rt.alloc()) else {
+    let Some(catalogue) = mixed(rt.alloc()) else {
         return eprintln!(rt; "no memory");
     };
     let mut codes: Vec<Encoded> = Vec::new(rt.alloc());
     for turn in 0..10 {
-        if let Some(e) = written(&c, turn) {
-            codes.push(e)?;
+        if let Some(code) = written(&catalogue, turn) {
+            codes.push(code)?;
         }
     }
     let start = Instant::now(&rt)?;
-    let accepted = write_all(&c, count);
+    let accepted = write_all(&catalogue, count);
     let writing = start.elapsed(&rt)?.as_millis();
     let start = Instant::now(&rt)?;
-    let same = read_all(&c, &codes, count);
+    let same = read_all(&catalogue, &codes, count);
     let reading = start.elapsed(&rt)?.as_millis();
     eprintln!(rt; "writing {writing} ms, reading {reading} ms, for {count} instructions each")?;
     println!(rt; "{accepted} instructions written, {same} read back as written")

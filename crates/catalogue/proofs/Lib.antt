@@ -1,3 +1,3 @@
-pub mod Along
+pub mod Same
 pub mod Read
 pub mod Written

@@ -15,7 +15,7 @@ use Rattle.form.specs.declared.table.OpcodeDigits.{OpcodeDigits}
 use Rattle.form.specs.declared.table.OpcodeDigits.TheVariants.{Two, Three, FourFront, FourEnds}
 use Rattle.codec.specs.Digits.{operand_at}
 use Rattle.form.specs.Table.{places}
-use Rattle.codec.proofs.Gathered.{way, way_is, gather_at, gather_is, nibbles_len, opc, opcode_is, ways_same, even_row_size}
+use Rattle.codec.proofs.Gathered.{gather_at, gather_is, nibbles_len, opc, opcode_is, even_row_size}
 
 pub nib_even : (bs : List ℕ) (j : ℕ) → get_or (nibbles bs) (2 * j) 0 ≡ get_or bs j 0 / 16
 nib_even [] j = refl
@@ -86,16 +86,14 @@ opb Three bs = get_or bs 0 0 * 16 + get_or bs 1 0 % 16
 opb FourFront bs = get_or bs 0 0 * 256 + get_or bs 1 0
 opb FourEnds bs = get_or bs 0 0 * 256 + get_or bs 5 0
 
-opc_bytes : (d : OpcodeDigits) (bs : List ℕ) → opc d (nibbles bs) ≡ opb d bs
+opc_bytes : (d : OpcodeDigits) (bs : List ℕ) → opc (places d) (nibbles bs) ≡ opb d bs
 opc_bytes Two bs = omega (arith, nib_even bs 0, nib_odd bs 0)
 opc_bytes Three bs = omega (arith, nib_even bs 0, nib_odd bs 0, nib_odd bs 1)
 opc_bytes FourFront bs = omega (arith, nib_even bs 0, nib_odd bs 0, nib_even bs 1, nib_odd bs 1)
 opc_bytes FourEnds bs = omega (arith, nib_even bs 0, nib_odd bs 0, nib_even bs 5, nib_odd bs 5)
 
 pub opcode_by : (f : Form) (d : OpcodeDigits) (bs : List ℕ) → length bs ≡ form.size f → places d ≡ form.opcode_digits f → opb d bs ≡ opcode_of f bs
-opcode_by f d bs s e =
-    let w : d ≡ way f = ways_same d (way f) (e ∙ sym (way_is f)) in
-    ap (λ (v : OpcodeDigits). opb v bs) w ∙ sym (opc_bytes (way f) bs) ∙ sym (opcode_is f bs s)
+opcode_by f d bs s e = sym (opc_bytes d bs) ∙ ap (λ (ps : List ℕ). opc ps (nibbles bs)) e ∙ sym (opcode_is f bs s)
 
 pub six_are : (ks : List OperandKind) (ds : List form.Digit) (xs : List ℕ) → length ks ≤ 6
     → six (operands_from 0 ks ds xs) ≡ operand_at ks ds xs 0 ∷ operand_at ks ds xs 1 ∷ operand_at ks ds xs 2 ∷ operand_at ks ds xs 3 ∷ operand_at ks ds xs 4 ∷ operand_at ks ds xs 5 ∷ []

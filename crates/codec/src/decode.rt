@@ -15,11 +15,8 @@ fn nibble(bytes: &[u8], i: usize) -> u8
     ensures is { result ≡ slice_index (nibbles bytes.now) i }
     ensures small { result < 16 }
 {
-    if i % 2 == 0 {
-        bytes[i / 2] / 16
-    } else {
-        bytes[i / 2] % 16
-    }
+    let byte = bytes[i / 2];
+    if i % 2 == 0 { byte / 16 } else { byte % 16 }
 }
 
 fn scaled(x: u8, k: usize) -> u64
@@ -27,17 +24,7 @@ fn scaled(x: u8, k: usize) -> u64
     ensures is { result ≡ x * 16 ^ k }
     ensures small { result < 2 ^ 32 }
 {
-    let x = x as u64;
-    match k {
-        0 => x * 1,
-        1 => x * 16,
-        2 => x * 256,
-        3 => x * 4096,
-        4 => x * 65536,
-        5 => x * 1048576,
-        6 => x * 16777216,
-        _ => x * 268435456,
-    }
+    x as u64 * 16u64.pow(k as u32)
 }
 
 /// What a digit of the row says about operand i.
@@ -47,11 +34,9 @@ fn weigh(i: usize, d: Digit, x: u8) -> u64
     ensures small { result < 2 ^ 32 }
 {
     match d {
-        Digit::Op(_) => 0,
         Digit::Arg(j, k) => if i == j { scaled(x, k) } else { 0 },
         Digit::Vector(j) => if i == j { x as u64 } else { 0 },
-        Digit::Unused => 0,
-        Digit::Rxb => 0,
+        Digit::Op(_) | Digit::Unused | Digit::Rxb => 0,
     }
 }
 
@@ -72,11 +57,7 @@ fn operand_sum(i: usize, row: &[Digit], bytes: &[u8]) -> u64
 fn digit_at(row: &[Digit], place: usize) -> Digit
     ensures { digit_of result ≡ slice_index_or (map digit_of row.now) place unused }
 {
-    if place < row.len() {
-        row[place]
-    } else {
-        Digit::Unused
-    }
+    row.get(place).copied().unwrap_or(Digit::Unused)
 }
 
 /// A bit of RXB, where the digit is the low one of the vector register i.
@@ -86,11 +67,8 @@ fn bit_of(i: usize, d: Digit, bit: u8) -> u8
     ensures small { result < 2 }
 {
     match d {
-        Digit::Op(_) => 0,
-        Digit::Arg(_, _) => 0,
         Digit::Vector(j) => if i == j { bit } else { 0 },
-        Digit::Unused => 0,
-        Digit::Rxb => 0,
+        Digit::Op(_) | Digit::Arg(_, _) | Digit::Unused | Digit::Rxb => 0,
     }
 }
 
@@ -99,7 +77,7 @@ fn ninth(bytes: &[u8]) -> u8
     ensures is { result ≡ slice_index (nibbles bytes.now) 9 }
     ensures small { result < 16 }
 {
-    if bytes.len() < 5 { 0 } else { nibble(bytes, 9) }
+    bytes.get(4).copied().unwrap_or(0) % 16
 }
 
 fn bits(i: usize, row: &[Digit], x: u8) -> u8
@@ -129,14 +107,8 @@ fn number(kind: OperandKind, n: u64) -> i64
     ensures { result ≡ from_bits (width kind) n }
 {
     match kind {
-        OperandKind::G => n as i64,
-        OperandKind::N => n as i64,
-        OperandKind::V => n as i64,
-        OperandKind::F => n as i64,
-        OperandKind::M => n as i64,
-        OperandKind::U8 => n as i64,
-        OperandKind::U16 => n as i64,
-        OperandKind::U32 => n as i64,
+        OperandKind::G | OperandKind::N | OperandKind::V | OperandKind::F => n as i64,
+        OperandKind::M | OperandKind::U8 | OperandKind::U16 | OperandKind::U32 => n as i64,
         OperandKind::D12 => n as i64,
         OperandKind::S16 => signed(n, 0x8000),
         OperandKind::D20 => signed(n, 0x8_0000),
@@ -164,13 +136,7 @@ fn signed(n: u64, half: u64) -> i64
 fn is_vector(d: Digit) -> bool
     ensures { result ≡ is_vec (digit_of d) }
 {
-    match d {
-        Digit::Op(_) => false,
-        Digit::Arg(_, _) => false,
-        Digit::Vector(_) => true,
-        Digit::Unused => false,
-        Digit::Rxb => false,
-    }
+    matches!(d, Digit::Vector(_))
 }
 
 /// Byte i, 0 past the end.
@@ -178,7 +144,7 @@ fn byte_at(bytes: &[u8], i: usize) -> u16
     ensures is { result ≡ slice_index bytes.now i }
     ensures small { result < 256 }
 {
-    if i < bytes.len() { bytes[i] as u16 } else { 0 }
+    bytes.get(i).copied().unwrap_or(0) as u16
 }
 
 /// The opcode's digits.
@@ -226,7 +192,7 @@ fn operands_of(form: Form, bytes: &[u8]) -> [i64; 6]
 fn bit_clean(d: Digit, bit: u8) -> bool
     ensures { result ≡ (is_vec (digit_of d) || bit == 0) }
 {
-    if is_vector(d) { true } else { bit == 0 }
+    is_vector(d) || bit == 0
 }
 
 /// Whether no bit of RXB is set but those of vector registers.
@@ -246,9 +212,7 @@ fn digit_is_clean(row: &[Digit], d: Digit, x: u8) -> bool
     ensures { result ≡ digit_clean (map digit_of row.now) (digit_of d) x }
 {
     match d {
-        Digit::Op(_) => true,
-        Digit::Arg(_, _) => true,
-        Digit::Vector(_) => true,
+        Digit::Op(_) | Digit::Arg(_, _) | Digit::Vector(_) => true,
         Digit::Unused => x == 0,
         Digit::Rxb => rxb_is_clean(row, x),
     }

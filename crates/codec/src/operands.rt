@@ -10,11 +10,8 @@ fn is_in(kind: OperandKind, z: i64) -> bool
     ensures { result ≡ In kind z }
 {
     match kind {
-        OperandKind::G => 0 <= z && z < 16,
-        OperandKind::N => 0 <= z && z < 16,
+        OperandKind::G | OperandKind::N | OperandKind::F | OperandKind::M => 0 <= z && z < 16,
         OperandKind::V => 0 <= z && z < 32,
-        OperandKind::F => 0 <= z && z < 16,
-        OperandKind::M => 0 <= z && z < 16,
         OperandKind::U8 => 0 <= z && z < 256,
         OperandKind::U16 => 0 <= z && z < 65536,
         OperandKind::U32 => 0 <= z && z < 4294967296,
@@ -30,11 +27,9 @@ fn is_in(kind: OperandKind, z: i64) -> bool
 fn is_taken(form: Form, i: usize, z: i64) -> bool
     ensures { result ≡ taken_at (kinds_of form) i z }
 {
-    let kinds = form.kinds();
-    if i < kinds.len() {
-        is_in(kinds[i], z)
-    } else {
-        z == 0
+    match form.kinds().get(i) {
+        Some(kind) => is_in(*kind, z),
+        None => z == 0,
     }
 }
 

@@ -7,12 +7,7 @@ use operand::reg::{Reg, is_fpr};
 fn is_high_vr(reg: Option<Reg>) -> bool
     ensures { (if result then 1 else 0) ≡ bit reg }
 {
-    if let Some(reg) = reg {
-        if !is_fpr(reg) {
-            return true;
-        }
-    }
-    false
+    reg.is_some_and(|reg| !is_fpr(reg))
 }
 
 /// The digit RXB: its bits 8, 4, 2 and 1 are for the registers in the digits 2, 3, 4 and 8 of a row.
@@ -22,16 +17,16 @@ pub fn rxb(v1: Option<Reg>, v2: Option<Reg>, v3: Option<Reg>, v4: Option<Reg>) -
 {
     let mut rxb = 0;
     if is_high_vr(v1) {
-        rxb = rxb | 8;
+        rxb |= 8;
     }
     if is_high_vr(v2) {
-        rxb = rxb | 4;
+        rxb |= 4;
     }
     if is_high_vr(v3) {
-        rxb = rxb | 2;
+        rxb |= 2;
     }
     if is_high_vr(v4) {
-        rxb = rxb | 1;
+        rxb |= 1;
     }
     rxb
 }

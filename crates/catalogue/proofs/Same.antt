@@ -1,18 +1,12 @@
--- Entries, and finding one along a list.
-use Rattle.std.proofs.Common.{◌≡◌, ℕ, Bool, cond, eqb, List, [], ◌∷◌, Some, refl, ap, ◌∙◌}
+-- Comparing forms is comparing their numbers.
+use Rattle.std.proofs.Common.{◌≡◌, ℕ, eqb, refl, ap, ◌∙◌}
 use denote.Enum.Bare.{sameb}
 use denote.Enum.Declared.{tag_of}
-use Rattle.std.specs.List.{find as std_find}
 use Rattle.form.specs.declared.Form.{Form}
 use Rattle.form.specs.contracts.Form.{the_type}
 use Rattle.form.specs.Form.{form_number}
 use Rattle.form.proofs.Tests.{eqb_is}
 use Rattle.form.proofs.Every.{at_each}
-use Rattle.catalogue_law.specs.Catalogue.{find}
-
-pub find_is : {X : Type 0} (p : X → Bool) (xs : List X) → std_find p xs ≡ find p xs
-find_is p [] = refl
-find_is p (x ∷ xs) = ap (cond (p x) (Some x)) (find_is p xs)
 
 tag_is : (f : Form) → tag_of the_type f ≡ form_number f
 tag_is f = eqb_is (tag_of the_type f) (form_number f) (at_each (λ f. eqb (tag_of the_type f) (form_number f)) refl f)
