@@ -130,9 +130,6 @@ module _ (align : ℤ) (i : FieldInfo) (bytes : List ℕ) (d x : ℤ) (above : p
   ok : Accepted a i (length bytes) d
   ok = accepted a i (length bytes) d unrefused
 
-  pub room : i.past ≤ length bytes
-  room = let k = ok.enough in let l = fits.shape.inside in omega arith
-
   pub field_few : length (field_bytes i bytes) ≤ 8
   field_few = part_few align i bytes above fits ok.enough
 

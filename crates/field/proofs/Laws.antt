@@ -8,7 +8,7 @@ use Rattle.refusal.specs.Refusals.{answered, unless}
 use Rattle.refusal.specs.Numbers.{signed, wrap, big_endian, bytes_of_number}
 use Rattle.field.specs.declared.verdict.FieldRefusal.{FieldRefusal}
 use Rattle.field.specs.declared.verdict.FieldRefusal.TheVariants.{Kind, Far, Odd}
-use Rattle.field.specs.Family.{◌when◌, first_refused, FieldInfo, family, field_bytes, field_value, held, held_by, multiple, refuses, refuses_by, Fits, Patches, Lawful, overwritten}
+use Rattle.field.specs.Family.{◌when◌, first_refused, FieldInfo, family, field_bytes, field_value, held_by, multiple, refuses_by, Fits, Patches, Lawful, overwritten}
 use Rattle.field.proofs.Numbers.{number_length, held_back}
 
 pub never_none : {X P : Type 0} (x : X) → ◌≡◌ {A = Option X} (Some x) None → P
@@ -128,34 +128,14 @@ overwriting a table one fits =
           (overwrites a i d bytes one (fits k i e) bs (accepted a i (length bytes) d (subst (λ (o : Option FieldInfo). refuses_by a o (length bytes) d ≡ None) e ok)));
     }
 
--- It reads back what it has written.
-pub overwriting_held : (a : ℕ) (table : ℕ → Option FieldInfo) (k : ℕ) (i : FieldInfo) (bytes : List ℕ) (d : ℤ) → 1 ≤ a → table k ≡ Some i → Fits a i → refuses (record { align = a; table = table }) k (length bytes) d ≡ None
-    → (new : List ℕ) → new ≡ overwritten a (table k) bytes d → held (record { align = a; table = table }) k new ≡ Ok d
-overwriting_held a table k i bytes d one t fit none new e =
-    let r : refuses_by a (Some i) (length bytes) d ≡ None = subst (λ (o : Option FieldInfo). refuses_by a o (length bytes) d ≡ None) t none in
-    ap (held (record { align = a; table = table }) k) e
-    ∙ ap (λ (o : Option FieldInfo). held_by a o (overwritten a o bytes d)) t
-    ∙ overwritten_held a i d bytes one fit (accepted a i (length bytes) d r)
-
--- A patch whose verdict is no refusal, or one.
-
-pub passed_none : {X : Type 0} (o : Option FieldRefusal) (x y : X) → ◌≡◌ {A = Result X FieldRefusal} (Ok x) (answered o y) → o ≡ None
-passed_none None x y h = refl
-passed_none (Some e) x y h = let z : ◌≡◌ {A = ℕ} 0 1 = cc in absurd (omega arith)
+-- A patch that is refused.
 
 pub not_accepted : {P : Type 0} (r : Result (Unit {0}) FieldRefusal) → is_err r ≡ true → r ≡ Ok tt → P
 not_accepted r e h = absurd (both_ways (is_err r) (ap is_err h) e)
 
-module _ (o : Option FieldRefusal) {X : Type 0} (x : X) (e : FieldRefusal) (h : ◌≡◌ {A = Result X FieldRefusal} (Err e) (answered o x)) where
-  pub refused_some : o ≡ Some e
-  refused_some = go o h
-    where
-      go : (q : Option FieldRefusal) → ◌≡◌ {A = Result X FieldRefusal} (Err e) (answered q x) → q ≡ Some e
-      go None h = let z : ◌≡◌ {A = ℕ} 0 1 = cc in absurd (omega arith)
-      go (Some r) h = let k : r ≡ e = cc in ap Some k
+refused_some : (o : Option FieldRefusal) {X : Type 0} (x : X) (e : FieldRefusal) → ◌≡◌ {A = Result X FieldRefusal} (Err e) (answered o x) → o ≡ Some e
+refused_some None x e h = let z : ◌≡◌ {A = ℕ} 0 1 = cc in absurd (omega arith)
+refused_some (Some r) x e h = let k : r ≡ e = cc in ap Some k
 
-  pub refused_answer : ◌≡◌ {A = Result (Unit {0}) FieldRefusal} (Err e) (answered o tt)
-  refused_answer = sym (ap (λ (q : Option FieldRefusal). answered {X = Unit {0}} q tt) refused_some)
-
-  pub refused_leaves : (done found : List ℕ) → found ≡ unless o done found
-  refused_leaves done found = sym (ap (λ (q : Option FieldRefusal). unless q done found) refused_some)
+pub refused_leaves : (o : Option FieldRefusal) {X : Type 0} (x : X) (e : FieldRefusal) → ◌≡◌ {A = Result X FieldRefusal} (Err e) (answered o x) → (done found : List ℕ) → found ≡ unless o done found
+refused_leaves o x e h done found = sym (ap (λ (q : Option FieldRefusal). unless q done found) (refused_some o x e h))

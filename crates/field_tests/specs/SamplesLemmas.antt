@@ -5,9 +5,9 @@ use Rattle.std.specs.Int.Signed.{mag}
 use Rattle.std.specs.List.{AllByRecursion}
 use Rattle.std.proofs.lemmas.Int.{ints}
 use Rattle.refusal.specs.Numbers.{wrap, signed}
-use Rattle.field.specs.Family.{FieldInfo, refuses_by, Shape, Patches, Lawful}
+use Rattle.field.specs.Family.{FieldInfo, refuses_by, Shape, Fits, Patches, Lawful}
 use Rattle.field.proofs.Numbers.{signed_wrap, wrap_below}
-use Rattle.field.proofs.Laws.{Accepted, accepted, never_none, same_some, near, Fits, overwriting}
+use Rattle.field.proofs.Laws.{Accepted, accepted, never_none, same_some, near, overwriting}
 use Rattle.field_tests.specs.Samples.{one_kind, added_info, added, added_family, quarter_info, quarter_family}
 
 one_is : (n : ℕ) (i : FieldInfo) (k : ℕ) (j : FieldInfo) → one_kind n i k ≡ Some j → i ≡ j

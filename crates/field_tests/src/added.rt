@@ -5,6 +5,7 @@ ghost use Rattle.std.proofs.Common.{rules};
 ghost use Rattle.field_tests.specs.SamplesLemmas.{added_lawful};
 
 use field::family::{FieldPatch, FieldRead};
+use field::info::FieldInfo;
 use field::verdict::FieldRefusal;
 
 /// One byte that holds any distance; a patch adds to it.
@@ -26,63 +27,30 @@ fn cut(distance: i64) -> u8
 impl FieldRead for Added {
     ghost fields = { added_family.fields };
 
+    ghost ALIGN = { pos 1 };
+
     const ALIGN: i64 = 1;
 
     ghost lawful = { Prim.search rules };
 
-    fn step() -> i64 {
-        Self::ALIGN
-    }
+    ghost aligned = { Prim.search rules };
 
-    fn lead(kind: u8) -> Result<u8, FieldRefusal> {
+    fn info(kind: u8) -> Result<FieldInfo, FieldRefusal> {
         match kind {
-            7 => Ok(1),
-            _ => Err(FieldRefusal::Kind),
-        }
-    }
-
-    fn size(kind: u8) -> Result<u8, FieldRefusal> {
-        match kind {
-            7 => Ok(1),
-            _ => Err(FieldRefusal::Kind),
-        }
-    }
-
-    fn field(kind: u8) -> Result<(u8, u8), FieldRefusal> {
-        match kind {
-            7 => Ok((0, 1)),
-            _ => Err(FieldRefusal::Kind),
-        }
-    }
-
-    fn least(kind: u8) -> Result<i64, FieldRefusal> {
-        match kind {
-            7 => Ok(-128),
-            _ => Err(FieldRefusal::Kind),
-        }
-    }
-
-    fn greatest(kind: u8) -> Result<i64, FieldRefusal> {
-        match kind {
-            7 => Ok(127),
+            7 => Ok(FieldInfo {
+                lead: 1,
+                size: 1,
+                first: 0,
+                past: 1,
+                least: -128,
+                greatest: 127,
+            }),
             _ => Err(FieldRefusal::Kind),
         }
     }
 
     fn held(kind: u8, bytes: &[u8]) -> Result<i64, FieldRefusal> {
-        match kind {
-            7 => match bytes {
-                [] => Err(FieldRefusal::Kind),
-                [b, ..] => {
-                    if *b < 128 {
-                        Ok(*b as i64)
-                    } else {
-                        Ok(*b as i64 - 256)
-                    }
-                }
-            },
-            _ => Err(FieldRefusal::Kind),
-        }
+        Self::info(kind)?.held(Self::ALIGN, bytes)
     }
 }
 

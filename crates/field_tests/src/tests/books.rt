@@ -5,30 +5,6 @@ use refusal::Reason;
 use std::alloc::Global;
 use std::test::Fail;
 
-fn number<T: Drop>(r: Result<T, Reason>) -> u8 {
-    match r {
-        Ok(_) => 0,
-        Err(reason) => reason.number(),
-    }
-}
-
-/// The place of a label, or 1,000 where it waits, 2,000 where it is given up.
-fn place(labels: &LabelBook, label: usize) -> usize {
-    match labels.slot(label) {
-        Slot::Waiting => 1000,
-        Slot::Bound(place) => place,
-        Slot::GivenUp => 2000,
-    }
-}
-
-fn bind(labels: &mut LabelBook, label: usize, place: usize) -> u8 {
-    number(labels.bind(label, place))
-}
-
-fn give_up(labels: &mut LabelBook, label: usize) {
-    labels.give_up(label);
-}
-
 /// A book with so many labels, or the answer that stopped it.
 pub(crate) fn reserved(heap: Global, count: usize) -> Result<LabelBook, Reason> {
     let mut labels = LabelBook::new(heap)?;
@@ -52,26 +28,23 @@ fn recorded(heap: Global, count: usize) -> Result<UseBook, Reason> {
 
 #[test]
 fn labels(rt: HostRuntime) -> Result<(), Fail> {
-    let Ok(mut labels) = reserved(rt.alloc(), 3) else {
-        return Err(Fail::new("memory"));
-    };
-    assert!(rt;
-        bind(&mut labels, 1, 6) == 0 && bind(&mut labels, 1, 8) == 12 && place(&labels, 1) == 6
-    );
-    give_up(&mut labels, 1);
-    give_up(&mut labels, 2);
-    give_up(&mut labels, 3);
-    assert!(rt; place(&labels, 0) == 1000 && place(&labels, 1) == 6 && place(&labels, 2) == 2000);
-    assert!(rt;
-        bind(&mut labels, 2, 8) == 12 && bind(&mut labels, 3, 8) == 12 && place(&labels, 3) == 2000
-    );
+    let mut labels = reserved(rt.alloc(), 3).ok().ok_or("memory")?;
+    assert!(rt; labels.bind(1, 6) == Ok(()) && labels.bind(1, 8) == Err(Reason::Label));
+    assert!(rt; labels.slot(1) == Slot::Bound(6));
+    labels.give_up(1);
+    labels.give_up(2);
+    labels.give_up(3);
+    assert!(rt; labels.slot(0) == Slot::Waiting && labels.slot(1) == Slot::Bound(6));
+    assert!(rt; labels.slot(2) == Slot::GivenUp);
+    assert!(rt; labels.bind(2, 8) == Err(Reason::Label) && labels.bind(3, 8) == Err(Reason::Label));
+    assert!(rt; labels.slot(3) == Slot::GivenUp);
     Ok(())
 }
 
 #[test]
 fn full(rt: HostRuntime) {
-    assert!(rt; number(reserved(rt.alloc(), 256)) == 0 && number(reserved(rt.alloc(), 257)) == 15);
-    assert!(rt;
-        number(recorded(rt.alloc(), 1024)) == 0 && number(recorded(rt.alloc(), 1025)) == 15
-    );
+    assert!(rt; reserved(rt.alloc(), 256).is_ok());
+    assert!(rt; reserved(rt.alloc(), 257).err() == Some(Reason::Full));
+    assert!(rt; recorded(rt.alloc(), 1024).is_ok());
+    assert!(rt; recorded(rt.alloc(), 1025).err() == Some(Reason::Full));
 }

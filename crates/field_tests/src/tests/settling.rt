@@ -1,21 +1,19 @@
 use crate::added::Added;
 use crate::quarters::Quarters;
-use crate::tests::answers::parts;
 use crate::tests::books::reserved;
 use book::label_book::LabelBook;
 use book::target::{Target, Use};
 use families::labels::Labels;
 use families::relocations::Relocations;
 use field::family::FieldPatch;
-use settle::settle;
+use refusal::{Layer, Reason, Refusal};
+use settle::{Places, settle};
 use std::alloc::Global;
 use std::test::Fail;
 
 /// Two labels, the first bound at 12.
 fn labels(heap: Global) -> Result<LabelBook, Fail> {
-    let Ok(mut labels) = reserved(heap, 2) else {
-        return Err(Fail::new("memory"));
-    };
+    let mut labels = reserved(heap, 2).ok().ok_or("memory")?;
     let _ = labels.bind(0, 12);
     Ok(labels)
 }
@@ -25,8 +23,16 @@ fn settled<L: FieldPatch, S: FieldPatch>(
     labels: &LabelBook,
     symbols: &[i64],
     code: &mut [u8],
-) -> (u8, usize, u8) {
-    parts(settle::<L, S>(uses, labels, symbols, code))
+) -> Result<(), Refusal> {
+    settle::<L, S>(uses, &Places { labels, symbols }, code)
+}
+
+fn refused(reason: Reason, place: usize, layer: Layer) -> Result<(), Refusal> {
+    Err(Refusal {
+        reason,
+        place,
+        layer,
+    })
 }
 
 // a branch to the label, and one to the address of symbol 0 + 4
@@ -46,7 +52,7 @@ fn fills_both(rt: HostRuntime) -> Result<(), Fail> {
         },
     ];
     let mut code = [0xa7u8, 0xf4, 0, 0, 0xc0, 0x10, 0, 0, 0, 0, 0x07, 0xfe];
-    assert!(rt; settled::<Labels, Relocations>(&uses, &labels, &[-4], &mut code) == (0, 0, 0));
+    assert!(rt; settled::<Labels, Relocations>(&uses, &labels, &[-4], &mut code) == Ok(()));
     assert!(rt; code[0] == 0xa7 && code[1] == 0xf4 && code[2] == 0 && code[3] == 6);
     assert!(rt;
         code[4] == 0xc0 && code[5] == 0x10 && code[6] == 255 && code[9] == 254 && code[10] == 0x07
@@ -60,13 +66,41 @@ fn refuses(rt: HostRuntime) -> Result<(), Fail> {
     let labels = labels(rt.alloc())?;
     let symbols = [8i64, 9, i64::MAX];
     let cases = [
-        (Target::Label(1), 2, (9, 4, 3)),
-        (Target::Label(7), 2, (9, 4, 3)),
-        (Target::Symbol(3, 0), 2, (9, 4, 3)),
-        (Target::Symbol(1, 0), 2, (13, 4, 1)),
-        (Target::Symbol(2, i32::MAX), 2, (10, 4, 1)),
-        (Target::Symbol(2, 0), 2, (10, 4, 1)),
-        (Target::Symbol(0, 0), 3, (2, 4, 1)),
+        (
+            Target::Label(1),
+            2,
+            refused(Reason::Unbound, 4, Layer::Address),
+        ),
+        (
+            Target::Label(7),
+            2,
+            refused(Reason::Unbound, 4, Layer::Address),
+        ),
+        (
+            Target::Symbol(3, 0),
+            2,
+            refused(Reason::Unbound, 4, Layer::Address),
+        ),
+        (
+            Target::Symbol(1, 0),
+            2,
+            refused(Reason::Odd, 4, Layer::Field),
+        ),
+        (
+            Target::Symbol(2, i32::MAX),
+            2,
+            refused(Reason::Far, 4, Layer::Field),
+        ),
+        (
+            Target::Symbol(2, 0),
+            2,
+            refused(Reason::Far, 4, Layer::Field),
+        ),
+        (
+            Target::Symbol(0, 0),
+            3,
+            refused(Reason::Kind, 4, Layer::Field),
+        ),
     ];
     for (target, kind, expected) in &cases {
         let first = Use {
@@ -106,16 +140,20 @@ fn past_the_end(rt: HostRuntime) -> Result<(), Fail> {
         kind: 2,
         target: Target::Label(0),
     }];
-    assert!(rt; settled::<Labels, Relocations>(&cut, &labels, &[], &mut code) == (2, 1, 1));
+    assert!(rt;
+        settled::<Labels, Relocations>(&cut, &labels, &[], &mut code)
+            == refused(Reason::Kind, 1, Layer::Field)
+    );
     let out = [Use {
         place: usize::MAX,
         kind: 1,
         target: Target::Symbol(0, 0),
     }];
     assert!(rt;
-        settled::<Labels, Relocations>(&out, &labels, &[0], &mut code) == (2, usize::MAX, 1)
+        settled::<Labels, Relocations>(&out, &labels, &[0], &mut code)
+            == refused(Reason::Kind, usize::MAX, Layer::Field)
     );
-    assert!(rt; settled::<Labels, Relocations>(&[], &labels, &[], &mut code) == (0, 0, 0));
+    assert!(rt; settled::<Labels, Relocations>(&[], &labels, &[], &mut code) == Ok(()));
     Ok(())
 }
 
@@ -136,12 +174,20 @@ fn other_families(rt: HostRuntime) -> Result<(), Fail> {
             target: Target::Symbol(0, 0),
         },
     ];
-    assert!(rt; settled::<Added, Quarters>(&uses, &labels, &[-6], &mut code) == (0, 0, 0));
+    assert!(rt; settled::<Added, Quarters>(&uses, &labels, &[-6], &mut code) == Ok(()));
     assert!(rt; code[1] == 12 && code[5] == 0 && code[6] == 255 && code[7] == 254);
-    assert!(rt; settled::<Added, Quarters>(&uses, &labels, &[0], &mut code) == (13, 2, 1));
-    assert!(rt; settled::<Added, Quarters>(&uses, &labels, &[131_074], &mut code) == (10, 2, 1));
     assert!(rt;
-        settled::<Quarters, Added>(&uses, &labels, &[0], &mut code) == (2, 0, 1) && code[1] == 12
+        settled::<Added, Quarters>(&uses, &labels, &[0], &mut code)
+            == refused(Reason::Odd, 2, Layer::Field)
+    );
+    assert!(rt;
+        settled::<Added, Quarters>(&uses, &labels, &[131_074], &mut code)
+            == refused(Reason::Far, 2, Layer::Field)
+    );
+    assert!(rt;
+        settled::<Quarters, Added>(&uses, &labels, &[0], &mut code)
+            == refused(Reason::Kind, 0, Layer::Field)
+            && code[1] == 12
     );
     Ok(())
 }
