@@ -3,20 +3,15 @@ use crate::fault::Fault;
 use crate::words::{Args, Argument};
 use crate::{Answered, State};
 use access::plan::plan;
-use address::access::Access;
+use address::access::{Access, MemAccess};
 use address::args::{MemArg, MemInstType};
 use address::frame::Frame;
 use finalize::finalize::mem_finalize;
 use refusal::Reason;
 
 /// What an access writes. Every label is taken to be reserved.
-fn planned(
-    access: Access,
-    may_trap: bool,
-    mem: MemArg,
-    frame: &Frame,
-) -> Result<WrittenPlan, Reason> {
-    WrittenPlan::new(&plan(&access, may_trap, &mem, frame, false)?)
+fn planned(request: &MemAccess) -> Result<WrittenPlan, Reason> {
+    WrittenPlan::new(&plan(request, false)?)
 }
 
 /// The access of a command, without its address.
@@ -60,7 +55,14 @@ fn finalized(frame: &Frame, args: &mut Args) -> Answered {
 /// Accesses, finalized and encoded.
 fn emit(frame: &Frame, name: &str, args: &mut Args) -> Answered {
     let access = access_of(name, args)?;
-    args.answer(move |(may_trap, mem)| planned(access, may_trap, mem, frame))
+    args.answer(move |(may_trap, mem)| {
+        planned(&MemAccess {
+            access,
+            may_trap,
+            mem,
+            frame,
+        })
+    })
 }
 
 /// Addresses, in the frame that the last `state` has set, and accesses to them.

@@ -2,6 +2,7 @@ use crate::Answered;
 use crate::fault::Fault;
 use crate::words::Args;
 use catalogue::catalogue::Catalogue;
+use form::instr::Entry;
 use form::instr::Placed;
 use refusal::Refusal;
 
@@ -17,7 +18,7 @@ fn first_in(catalogue: &Catalogue, bytes: Option<Vec<u8>>) -> Result<Option<Plac
 /// The catalogue of opcodes.
 pub fn answer(catalogue: &mut Catalogue, name: &str, args: &mut Args) -> Answered {
     match name {
-        "admit" => args.answer(|(form, opcode)| catalogue.admit(form, opcode)),
+        "admit" => args.answer(|(form, opcode)| catalogue.admit(Entry::new(form, opcode))),
         "read" => args.answer(|bytes| first_in(catalogue, bytes)),
         _ => Err(Fault::UnknownCommand),
     }

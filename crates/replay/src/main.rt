@@ -47,15 +47,7 @@ struct State {
 impl State {
     fn new(heap: Global) -> Result<State, Refusal> {
         Ok(State {
-            frame: Frame {
-                incoming_args_size: 0,
-                clobber_size: 0,
-                fixed_frame_storage_size: 0,
-                stackslots_size: 0,
-                outgoing_args_size: 0,
-                nominal_sp_offset: 0,
-                outgoing_sp_offset: 0,
-            },
+            frame: Frame::EMPTY,
             catalogue: Catalogue::new(heap)?,
         })
     }

@@ -20,7 +20,7 @@ pub struct WrittenPlan([Option<Written>; 3]);
 
 impl Written {
     fn new(place: usize, item: Aimed) -> Result<Written, Reason> {
-        let code = encode(item.instr.form, item.instr.opcode, &item.instr.operands)?;
+        let code = encode(&item.instr)?;
         Ok(Written {
             place,
             code,
@@ -29,7 +29,7 @@ impl Written {
     }
 
     fn bytes(&self) -> &[u8] {
-        self.code.bytes.get(..self.code.count).unwrap_or(&[])
+        self.code.as_slice()
     }
 
     /// The place behind it.
