@@ -37,9 +37,9 @@ placed_err : {X : Type 0} (at : ℕ) (o : Option Reason) (y : X) (r : Reason) �
 placed_err at None y r h = absurd (ok_err refl (sym h))
 placed_err at (Some q) y r h = let e : r ≡ q = cc in ap (λ (z : Reason). Err (refused_at at z)) e
 
-none_of : (o : Option Reason) → ◌≡◌ {A = Result (Unit {0}) Reason} (Ok tt) (answered o tt) → o ≡ None
-none_of None h = refl
-none_of (Some r) h = absurd (ok_err refl h)
+none_of : (at : ℕ) (o : Option Reason) → ◌≡◌ {A = Result (Unit {0}) Refusal} (Ok tt) (answer at o tt) → o ≡ None
+none_of at None h = refl
+none_of at (Some r) h = absurd (ok_err refl h)
 
 free_uses : (o : Option Target) (us : List Use) → (leaves_use o && leb 1024 (length us)) ≡ false → length us ≤ 1024 → length us + one_aim o ≤ 1024
 free_uses None us h k = omega arith
@@ -74,14 +74,13 @@ module _ (s : State) (a : Access) (t : Bool) (m : MemArg) (fr : Frame) (b : othe
     rest : first_refusal (cs ++ ds) ≡ first_refusal (end_checks s.books aimed n)
     rest = ok_first cs ds p.items ok ∙ ap first_refusal (sym same_checks)
 
-    pub no_space : (e : Refusal) (r : Reason) → e ≡ refused_at s.books.len r → ◌≡◌ {A = Result (Unit {0}) Reason} (Err r) (answered (first_refusal (end_checks s.books aimed n)) tt) → Accesses standard s a t m fr (Err e) s
-    no_space e r q h =
-        not_written s (cs ++ ds) [] tt tt (written s p.items) e b
-        (ap (λ (z : Refusal). Err z) q ∙ placed_err s.books.len (first_refusal (cs ++ ds)) tt r (h ∙ ap (λ (o : Option Reason). answered o tt) (sym rest)))
+    pub no_space : (e : Refusal) → ◌≡◌ {A = Result (Unit {0}) Refusal} (Err e) (answer s.books.len (first_refusal (end_checks s.books aimed n)) tt) → Accesses standard s a t m fr (Err e) s
+    no_space e h =
+        not_written s (cs ++ ds) [] tt tt (written s p.items) e b (h ∙ ap (λ (o : Option Reason). answer s.books.len o tt) (sym rest))
 
-    module _ (h : ◌≡◌ {A = Result (Unit {0}) Reason} (Ok tt) (answered (first_refusal (end_checks s.books aimed n)) tt)) where
+    module _ (h : ◌≡◌ {A = Result (Unit {0}) Refusal} (Ok tt) (answer s.books.len (first_refusal (end_checks s.books aimed n)) tt)) where
       nothing : plan_refusal standard s p ≡ None
-      nothing = subst (λ (z : Bool). cond z (Some why.Buffer) (first_refusal (cs ++ ds)) ≡ None) (sym b) (rest ∙ none_of (first_refusal (end_checks s.books aimed n)) h)
+      nothing = subst (λ (z : Bool). cond z (Some why.Buffer) (first_refusal (cs ++ ds)) ≡ None) (sym b) (rest ∙ none_of s.books.len (first_refusal (end_checks s.books aimed n)) h)
 
       pub fitting : sound s.entries ≡ true → length s.books.uses ≤ 1024 → Fits s ws
       fitting so few =
@@ -98,4 +97,4 @@ module _ (s : State) (a : Access) (t : Bool) (m : MemArg) (fr : Frame) (b : othe
 
       pub done : (u : State) → u ≡ written s ws → Accesses standard s a t m fr (Ok tt) u
       done u e =
-          accepted (plan_refusal standard s p) tt s (written s p.items) u (ap (λ (o : Option Reason). answered o tt) (sym nothing)) (e ∙ ap (written s) these)
+          accepted (plan_refusal standard s p) tt s (written s p.items) u (ap (λ (o : Option Reason). answer s.books.len o tt) (sym nothing)) (e ∙ ap (written s) these)

@@ -27,7 +27,7 @@ use Rattle.field.specs.Family.{Fields, serves}
 use Rattle.section.specs.Extended.{extended}
 
 -- nothing refused it
-pub accepted : {X : Type 0} (o : Option Reason) (x : X) (s done t : State) → Ok x ≡ answered o x → t ≡ done → Call o x s done (Ok x) t
+pub accepted : {X : Type 0} (o : Option Reason) (x : X) (s done t : State) → Ok x ≡ answer s.books.len o x → t ≡ done → Call o x s done (Ok x) t
 accepted None x s done t h e = record { answers = refl; leaves = e }
 accepted (Some r) x s done t h e = absurd (ok_err refl h)
 

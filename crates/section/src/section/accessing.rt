@@ -2,6 +2,8 @@ ghost use Rattle.std.specs.Prelude.{◌≡◌, List, [], ◌∷◌};
 ghost use Rattle.refusal.specs.Refusals.{first_refusal, answered};
 ghost use Rattle.address.specs.Access.{opcodes, plan as plan_of};
 ghost use Rattle.section.specs.Accessing.{opcode_checks, planned_checks};
+ghost use Rattle.refusal.specs.Tests.{any, all};
+ghost use Rattle.catalogue_law.specs.Catalogue.{misfit as misfit_of, catalogued};
 ghost use Rattle.catalogue.specs.Listed.{entries_in};
 ghost use Rattle.book.specs.Books.{lost_label, leaves_use};
 ghost use Rattle.book.specs.Listed.{labels_in};
@@ -9,7 +11,7 @@ ghost use Rattle.address.specs.declared.frame.Frame.{Frame};
 ghost use Rattle.address.specs.Convention.{standard};
 ghost use Rattle.address.specs.Address.{mode, target_of};
 ghost use Rattle.form.specs.declared.instr.Entry.{Entry};
-ghost use Rattle.address.specs.Held.{items_of, when_ok};
+ghost use Rattle.address.specs.Held.{listed, items_of, when_ok};
 ghost use Rattle.law.specs.Section.{written, Accesses};
 ghost use Rattle.section.specs.State.{state};
 ghost use Rattle.section.specs.Fits.{Fits};
@@ -21,17 +23,44 @@ use address::args::MemArg;
 use catalogue::catalogue::Catalogue;
 use catalogue::entry::misfit;
 use codec::encode::encode;
+use form::instr::Entry;
 use refusal::{Reason, Refusal};
+
+/// Whether an opcode that is given does not fit its form.
+fn misfits(entry: Option<Entry>) -> bool
+    ensures { result ≡ any (λ e. misfit_of e.form e.opcode) (listed entry) }
+{
+    entry.is_some_and(misfit)
+}
+
+/// Whether an opcode is catalogued, if it is given.
+fn is_held(catalogue: &Catalogue, entry: Option<Entry>) -> bool
+    ensures { result ≡ all (λ e. catalogued (entries_in catalogue.now) e.form e.opcode) (listed entry) }
+{
+    entry.is_none_or(|e| catalogue.holds(e))
+}
+
+fn any_misfits(given: &[Option<Entry>]) -> bool
+    ensures { result ≡ any (λ o. any (λ e. misfit_of e.form e.opcode) (listed o)) given.now }
+{
+    given.iter().any(|e| misfits(*e))
+}
+
+fn all_held(catalogue: &Catalogue, given: &[Option<Entry>]) -> bool
+    ensures { result ≡ all (λ o. all (λ e. catalogued (entries_in catalogue.now) e.form e.opcode) (listed o)) given.now }
+{
+    given.iter().all(|e| is_held(catalogue, *e))
+}
 
 /// MISFIT and OPCODE, over the opcodes that an access is given.
 fn check_opcodes(catalogue: &Catalogue, access: &Access) -> Result<(), Reason>
     ensures { result ≡ answered (first_refusal (opcode_checks (entries_in catalogue.now) (opcodes access.now))) tt }
 {
     let given = access.opcodes();
-    if given.iter().any(|e| e.is_some_and(misfit)) {
+    if any_misfits(&given) {
         return Err(Reason::Misfit);
     }
-    if !given.iter().all(|e| e.is_none_or(|e| catalogue.holds(e))) {
+    if !all_held(catalogue, &given) {
         return Err(Reason::Opcode);
     }
     Ok(())

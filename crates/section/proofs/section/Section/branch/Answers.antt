@@ -1,4 +1,4 @@
-use Rattle.std.proofs.Common.{true, Some, ap, ◌∙◌}
+use Rattle.std.proofs.Common.{true, length, Some, ap, ◌∙◌}
 use Rattle.refusal.specs.declared.Reason.TheVariants as why
 use Rattle.refusal.specs.Refusals.{first_refusal}
 use Rattle.book.specs.declared.target.Target.TheVariants.{Label as to_label}
@@ -15,5 +15,5 @@ pub returns : goal.returns
 returns g c es =
     let s = state c.args.self.now es c.args.code.now in
     past_two (branches c.args.form) (is_usable (slot_of (labels_in c.args.self.now.labels) c.args.label)) why.Form why.Label
-    (first_refusal (end_checks s.books true c.args.encoded.now.count)) tt s (extended s c.args.encoded.now (Some (to_label c.args.label)))
+    (first_refusal (end_checks s.books true (length c.args.encoded.now))) tt s (extended s c.args.encoded.now (Some (to_label c.args.label)))
     c.if-not-is_branch.ensures (c.if-not-is_usable.ensures ∙ ap (λ (x : Slot). is_usable x) c.slot.ensures) (c.append.ensures es)
