@@ -9,11 +9,9 @@ use Rattle.codec.specs.declared.row.Digit.{Digit}
 use Rattle.codec.specs.Digits.{digit_of}
 use Rattle.refusal.specs.Tests.{all}
 use Rattle.form.specs.declared.Form.{Form}
-use Rattle.form.specs.declared.OperandKind.{OperandKind}
-use Rattle.form.specs.Encode.{six, operands_from, all_clean, digit_clean, opcode_of}
+use Rattle.form.specs.Encode.{all_clean, digit_clean, opcode_of}
 use Rattle.form.specs.declared.table.OpcodeDigits.{OpcodeDigits}
 use Rattle.form.specs.declared.table.OpcodeDigits.TheVariants.{Two, Three, FourFront, FourEnds}
-use Rattle.codec.specs.Digits.{operand_at}
 use Rattle.form.specs.Table.{places}
 use Rattle.codec.proofs.Gathered.{gather_at, gather_is, nibbles_len, opc, opcode_is, even_row_size}
 
@@ -42,11 +40,6 @@ pub map_length : {X Y : Type 0} (g : X → Y) (xs : List X) → length (map g xs
 map_length g [] = refl
 map_length g (x ∷ xs) = ap suc (map_length g xs)
 
-pub map_drop : {X Y : Type 0} (g : X → Y) (xs : List X) (i : ℕ) → map g (drop i xs) ≡ drop i (map g xs)
-map_drop g xs zero = refl
-map_drop g [] (suc i) = refl
-map_drop g (x ∷ xs) (suc i) = map_drop g xs i
-
 -- one more digit is taken into the sum
 pub sum_more : (w : form.Digit → ℕ → ℕ) (row : List Digit) (xs : List ℕ) (k : ℕ) (d : Digit) → k < length row
     → gather_at w (map digit_of (drop k row)) xs k ≡ w (digit_of (get_or row k d)) (get_or xs k 0) + gather_at w (map digit_of (drop (k + 1) row)) xs (k + 1)
@@ -65,21 +58,6 @@ pub sum_whole : (w : form.Digit → ℕ → ℕ) (row : List Digit) (bs : List �
     → gather_at w (map digit_of (drop 0 row)) (nibbles bs) 0 ≡ gather w (map digit_of row) (nibbles bs)
 sum_whole w row bs e = sym (gather_is w (map digit_of row) (nibbles bs) (nibbles_len bs ∙ sym e ∙ sym (map_length digit_of row)))
 
-pub digit_of_at : (row : List Digit) (k : ℕ) (d : Digit) → k < length row → digit_of (get_or row k d) ≡ get_or (map digit_of row) k unused
-digit_of_at [] k d h = absurd (omega arith)
-digit_of_at (x ∷ row) zero d h = refl
-digit_of_at (x ∷ row) (suc k) d h = digit_of_at row k d (omega arith)
-
-pub digit_of_past : (row : List Digit) (k : ℕ) → length row ≤ k → unused ≡ get_or (map digit_of row) k unused
-digit_of_past [] k h = refl
-digit_of_past (x ∷ row) zero h = absurd (omega arith)
-digit_of_past (x ∷ row) (suc k) h = digit_of_past row k (omega arith)
-
-pub past_end : (xs : List ℕ) (k : ℕ) → length xs ≤ k → 0 ≡ get_or xs k 0
-past_end [] k h = refl
-past_end (x ∷ xs) zero h = absurd (omega arith)
-past_end (x ∷ xs) (suc k) h = past_end xs k (omega arith)
-
 abbrev pub opb : OpcodeDigits → List ℕ → ℕ
 opb Two bs = get_or bs 0 0
 opb Three bs = get_or bs 0 0 * 16 + get_or bs 1 0 % 16
@@ -94,17 +72,6 @@ opc_bytes FourEnds bs = omega (arith, nib_even bs 0, nib_odd bs 0, nib_even bs 5
 
 pub opcode_by : (f : Form) (d : OpcodeDigits) (bs : List ℕ) → length bs ≡ form.size f → places d ≡ form.opcode_digits f → opb d bs ≡ opcode_of f bs
 opcode_by f d bs s e = sym (opc_bytes d bs) ∙ ap (λ (ps : List ℕ). opc ps (nibbles bs)) e ∙ sym (opcode_is f bs s)
-
-pub six_are : (ks : List OperandKind) (ds : List form.Digit) (xs : List ℕ) → length ks ≤ 6
-    → six (operands_from 0 ks ds xs) ≡ operand_at ks ds xs 0 ∷ operand_at ks ds xs 1 ∷ operand_at ks ds xs 2 ∷ operand_at ks ds xs 3 ∷ operand_at ks ds xs 4 ∷ operand_at ks ds xs 5 ∷ []
-six_are [] ds xs h = refl
-six_are (a ∷ []) ds xs h = refl
-six_are (a ∷ b ∷ []) ds xs h = refl
-six_are (a ∷ b ∷ c ∷ []) ds xs h = refl
-six_are (a ∷ b ∷ c ∷ d ∷ []) ds xs h = refl
-six_are (a ∷ b ∷ c ∷ d ∷ e ∷ []) ds xs h = refl
-six_are (a ∷ b ∷ c ∷ d ∷ e ∷ f ∷ []) ds xs h = refl
-six_are (a ∷ b ∷ c ∷ d ∷ e ∷ f ∷ g ∷ ks) ds xs h = absurd (omega arith)
 
 pub few_kinds : (f : Form) → length (form.kinds f) ≤ 6
 few_kinds f = let h = ltb_is (length (form.kinds f)) 7 (at_each (λ f. ltb (length (form.kinds f)) 7) refl f) in omega arith
