@@ -8,7 +8,7 @@ use Rattle.std.proofs.lemmas.Int.{ints}
 use Rattle.refusal.specs.Refusals.{answered, unless}
 use Rattle.refusal.specs.Numbers.{wrap, signed, big_endian, bytes_of_number}
 use Rattle.field.specs.declared.verdict.FieldRefusal.{FieldRefusal}
-use Rattle.field.specs.Family.{FieldInfo, Fits, multiple, field_bytes, field_value, held_by, refuses_by, overwritten}
+use Rattle.field.specs.Family.{FieldInfo, FitsWord, multiple, field_bytes, field_value, held_by, refuses_by, overwritten}
 use Rattle.field.proofs.Numbers.{below_multiple, doubled}
 use Rattle.field.proofs.Laws.{Accepted, accepted, overwritten_held}
 
@@ -17,7 +17,7 @@ above_zero (pos n) h = ((let l : 1 ≤ n = omega (arith, ints) in l), refl)
 above_zero (negsuc n) h = absurd (omega (arith, ints))
 
 -- a field has at most eight bytes
-pub few : (a : ℕ) (i : FieldInfo) → 1 ≤ a → Fits a i → i.past - i.first ≤ 8
+pub few : (a : ℕ) (i : FieldInfo) → 1 ≤ a → FitsWord a i → i.past - i.first ≤ 8
 few a i one f =
     let n : ℕ = i.past - i.first in
     elim (dec_le n 8) [
@@ -67,7 +67,7 @@ product_fits a h (negsuc n) one l u =
     neg_fits (a * suc n) (omega arith)
 
 -- what reading finds
-module _ (align : ℤ) (i : FieldInfo) (bytes : List ℕ) (above : pos 0 <ℤ align) (fits : Fits (nat_abs align) i) (enough : i.size ≤ length bytes) where
+module _ (align : ℤ) (i : FieldInfo) (bytes : List ℕ) (above : pos 0 <ℤ align) (fits : FitsWord (nat_abs align) i) (enough : i.size ≤ length bytes) where
   one : 1 ≤ nat_abs align
   one = (above_zero align above).0
 
@@ -75,7 +75,7 @@ module _ (align : ℤ) (i : FieldInfo) (bytes : List ℕ) (above : pos 0 <ℤ al
   is = (above_zero align above).1
 
   pub part_length : length (field_bytes i bytes) ≡ i.past - i.first
-  part_length = field_length i bytes fits.some (let x = fits.shape.inside in omega arith)
+  part_length = field_length i bytes fits.fits.some (let x = fits.fits.shape.inside in omega arith)
 
   pub part_few : length (field_bytes i bytes) ≤ 8
   part_few = let x = part_length in let y = few (nat_abs align) i one fits in omega arith
@@ -86,7 +86,7 @@ module _ (align : ℤ) (i : FieldInfo) (bytes : List ℕ) (above : pos 0 <ℤ al
 
     pub distance_fits : SFits w64 (align *ℤ n)
     distance_fits =
-        let m : mag (field_value i bytes) < 2 ^ (8 * (i.past - i.first) - 1) = signed_near (8 * (i.past - i.first)) (big_endian 0 (field_bytes i bytes)) (let x = fits.some in omega arith) in
+        let m : mag (field_value i bytes) < 2 ^ (8 * (i.past - i.first) - 1) = signed_near (8 * (i.past - i.first)) (big_endian 0 (field_bytes i bytes)) (let x = fits.fits.some in omega arith) in
         subst (λ (a : ℤ). SFits w64 (a *ℤ n)) is
         (subst (λ (z : ℤ). SFits w64 (pos (nat_abs align) *ℤ z)) (sym number)
         (product_fits (nat_abs align) (2 ^ (8 * (i.past - i.first) - 1)) (field_value i bytes) one m fits.narrow))
@@ -116,7 +116,7 @@ answered_ok : (o : Option FieldRefusal) (x d : ℤ) → ◌≡◌ {A = Result �
 answered_ok None x d h = (refl, cc)
 answered_ok (Some e) x d h = let z : ◌≡◌ {A = ℕ} 0 1 = cc in absurd (omega arith)
 
-module _ (align : ℤ) (i : FieldInfo) (bytes : List ℕ) (d x : ℤ) (above : pos 0 <ℤ align) (fits : Fits (nat_abs align) i)
+module _ (align : ℤ) (i : FieldInfo) (bytes : List ℕ) (d x : ℤ) (above : pos 0 <ℤ align) (fits : FitsWord (nat_abs align) i)
     (h : ◌≡◌ {A = Result ℤ FieldRefusal} (Ok x) (answered (refuses_by (nat_abs align) (Some i) (length bytes) d) d)) where
   abbrev pub a : ℕ
   a = nat_abs align
@@ -149,7 +149,7 @@ module _ (align : ℤ) (i : FieldInfo) (bytes : List ℕ) (d x : ℤ) (above : p
       let w : new ≡ bytes_of_number n (wrap (8 * n) (shr_z d a)) =
       e ∙ ap (λ (k : ℕ). bytes_of_number k (wrap (8 * k) (quot_z x align))) (part_length align i bytes above fits ok.enough)
       ∙ ap (λ (z : ℤ). bytes_of_number n (wrap (8 * n) z)) q in
-      let f : i.first + n ≡ i.past = let s = fits.some in omega arith in
+      let f : i.first + n ≡ i.past = let s = fits.fits.some in omega arith in
       ap (λ (ys : List ℕ). take i.first bytes ++ (ys ++ drop n (drop i.first bytes))) w
       ∙ ap (λ (ys : List ℕ). take i.first bytes ++ (bytes_of_number n (wrap (8 * n) (shr_z d a)) ++ ys)) (drop-drop n i.first bytes ∙ ap (λ (k : ℕ). drop k bytes) f)
       ∙ sym (append_assoc (take i.first bytes) (bytes_of_number n (wrap (8 * n) (shr_z d a))) (drop i.past bytes))
@@ -161,4 +161,4 @@ module _ (align : ℤ) (i : FieldInfo) (bytes : List ℕ) (d x : ℤ) (above : p
   answers = sym (ap (λ (o : Option FieldRefusal). answered {X = Unit {0}} o tt) unrefused)
 
   pub holds : (new : List ℕ) → new ≡ overwritten a (Some i) bytes d → held_by a (Some i) new ≡ Ok d
-  holds new e = ap (held_by a (Some i)) e ∙ overwritten_held a i d bytes (above_zero align above).0 fits ok
+  holds new e = ap (held_by a (Some i)) e ∙ overwritten_held a i d bytes (above_zero align above).0 fits.fits ok

@@ -102,12 +102,16 @@ pub record Shape (i : FieldInfo) : Type 0 where
   pub size_small : i.size ≤ 16
   pub inside : i.past ≤ i.size
 
--- a kind whose field is wide enough for its range; the numbers that the field can hold, in units of a, are of 64 bits
+-- a kind whose field is wide enough for its range
 pub record Fits (a : ℕ) (i : FieldInfo) : Type 0 where
   pub shape : Shape i
   pub some : i.first < i.past
   pub low : mag i.least < 2 ^ (8 * (i.past - i.first) - 1) * a
   pub high : mag i.greatest < 2 ^ (8 * (i.past - i.first) - 1) * a
+
+-- and the numbers that the field can hold, in units of a, are of 64 bits
+pub record FitsWord (a : ℕ) (i : FieldInfo) : Type 0 where
+  pub fits : Fits a i
   pub narrow : 2 ^ (8 * (i.past - i.first) - 1) * a ≤ 2 ^ 63
 
 -- What an accepted patch of bytes does: it leaves bytes, as many as there were, and the same ones outside the field; a field that was zero

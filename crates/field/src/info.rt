@@ -1,6 +1,6 @@
 ghost use Rattle.std.specs.Prelude.{◌≡◌, ◌+◌, ◌&&◌, ◌||◌, pos, ◌<ℤ◌, if◌then◌else◌, None, Ok, Some, ◌==◌, int_lt, length, unsigned_abs};
 ghost use Rattle.refusal.specs.Refusals.{answered, unless};
-ghost use Rattle.field.specs.Family.{spans, multiple, refuses_by, held_by, overwritten, Fits};
+ghost use Rattle.field.specs.Family.{spans, multiple, refuses_by, held_by, overwritten, FitsWord};
 
 use crate::bytes::{put_number, signed_number};
 use crate::verdict::FieldRefusal;
@@ -74,7 +74,7 @@ impl FieldInfo {
     /// The distance that the bytes hold in units of `align`.
     pub fn held(self, align: i64, bytes: &[u8]) -> Result<i64, FieldRefusal>
         requires align { pos 0 <ℤ align }
-        requires fits { Fits (unsigned_abs align) self }
+        requires fits { FitsWord (unsigned_abs align) self }
         ensures { result ≡ held_by (unsigned_abs align) (Some self) bytes.now }
     {
         if bytes.len() < self.size as usize {
@@ -86,7 +86,7 @@ impl FieldInfo {
     /// Overwrites the field with a distance in units of `align`. Refused, no byte changes; accepted, the bytes hold the distance.
     pub fn overwrite(self, align: i64, bytes: &mut [u8], distance: i64) -> Result<(), FieldRefusal>
         requires align { pos 0 <ℤ align }
-        requires fits { Fits (unsigned_abs align) self }
+        requires fits { FitsWord (unsigned_abs align) self }
         ensures answers { result ≡ answered (refuses_by (unsigned_abs align) (Some self) (length bytes.old) distance) tt }
         ensures leaves { bytes.new ≡ unless (refuses_by (unsigned_abs align) (Some self) (length bytes.old) distance) (overwritten (unsigned_abs align) (Some self) bytes.old distance) bytes.old }
         ensures holds { result ≡ Ok tt → held_by (unsigned_abs align) (Some self) bytes.new ≡ Ok distance }
