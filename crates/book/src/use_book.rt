@@ -1,4 +1,4 @@
-ghost use Rattle.std.specs.Prelude.{◌≡◌, List, [], ◌∷◌, ◌++◌, MatchResult};
+ghost use Rattle.std.specs.Prelude.{◌≡◌, ◌≤◌, List, [], ◌∷◌, ◌++◌, length, MatchResult};
 ghost use Rattle.refusal.specs.Refusals.{first_refusal, answered, unless};
 ghost use Rattle.book.specs.Books.{no_more_uses, record_checks};
 ghost use Rattle.book.specs.Listed.{uses_in};
@@ -28,7 +28,8 @@ impl UseBook {
 
     /// Whether no more uses can be recorded.
     pub fn is_full(&self) -> bool
-        ensures { result ≡ no_more_uses (uses_in self.now) }
+        ensures full { result ≡ no_more_uses (uses_in self.now) }
+        ensures few { length (uses_in self.now) ≤ MOST_USES }
     {
         self.uses.is_full()
     }

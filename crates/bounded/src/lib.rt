@@ -39,7 +39,8 @@ impl<T, const MOST: usize> Bounded<T, MOST> {
 
     /// Whether no more items can be added.
     pub fn is_full(&self) -> bool
-        ensures { result ≡ nat_le MOST (length self.now) }
+        ensures full { result ≡ nat_le MOST (length self.now) }
+        ensures few { length self.now ≤ MOST }
     {
         self.items.len() >= MOST
     }

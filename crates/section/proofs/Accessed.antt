@@ -28,16 +28,11 @@ use Rattle.law.proofs.Matching.{SoundAimed}
 use Rattle.section.specs.Extended.{end_checks}
 use Rattle.section.specs.Accessing.{planned_checks}
 use Rattle.section.specs.Fits.{Fits, one_aim}
-use Rattle.section.proofs.Steps.{not_written, accepted, ours}
-use Rattle.section.proofs.Fitting.{gave}
+use Rattle.section.proofs.Steps.{not_written, accepted, answered_is, ours}
 use Rattle.section.proofs.Aims.{plan_aims}
 use Rattle.section.proofs.Tested.{ok_first}
 
-placed_err : {X : Type 0} (at : ℕ) (o : Option Reason) (y : X) (r : Reason) → Err r ≡ answered o y → Err (refused_at at r) ≡ answer at o y
-placed_err at None y r h = absurd (ok_err refl (sym h))
-placed_err at (Some q) y r h = let e : r ≡ q = cc in ap (λ (z : Reason). Err (refused_at at z)) e
-
-none_of : (at : ℕ) (o : Option Reason) → ◌≡◌ {A = Result (Unit {0}) Refusal} (Ok tt) (answer at o tt) → o ≡ None
+none_of : (at : ℕ) (o : Option Reason) {u : Unit {0}} → ◌≡◌ {A = Result (Unit {0}) Refusal} (Ok u) (answer at o tt) → o ≡ None
 none_of at None h = refl
 none_of at (Some r) h = absurd (ok_err refl h)
 
@@ -59,12 +54,12 @@ module _ (s : State) (a : Access) (t : Bool) (m : MemArg) (fr : Frame) (b : othe
   abbrev ds : Checks
   ds = space_checks s.books p.target p.items
 
-  pub unplanned : (e : Refusal) (r : Reason) → e ≡ refused_at s.books.len r → Err r ≡ answered (first_refusal cs) p.items → Accesses standard s a t m fr (Err e) s
-  unplanned e r q h = not_written s cs ds tt p.items (written s p.items) e b (ap (λ (z : Refusal). Err z) q ∙ placed_err s.books.len (first_refusal cs) p.items r h)
+  pub unplanned : (e : Refusal) → Err e ≡ answer s.books.len (first_refusal cs) p.items → Accesses standard s a t m fr (Err e) s
+  unplanned e h = not_written s cs ds tt p.items (written s p.items) e b h
 
-  module _ (ws : List Aimed) (aimed : Bool) (n : ℕ) (ok : Ok ws ≡ answered (first_refusal cs) p.items) (ae : aimed ≡ leaves_use p.target) (ne : n ≡ size_of_all ws) where
+  module _ (ws : List Aimed) (aimed : Bool) (n : ℕ) (ok : Ok ws ≡ answer s.books.len (first_refusal cs) p.items) (ae : aimed ≡ leaves_use p.target) (ne : n ≡ size_of_all ws) where
     these : ws ≡ p.items
-    these = gave (first_refusal cs) p.items ok
+    these = answered_is s.books.len p.items (first_refusal cs) ok
 
     same_checks : end_checks s.books aimed n ≡ ds
     same_checks =
@@ -72,13 +67,13 @@ module _ (s : State) (a : Access) (t : Bool) (m : MemArg) (fr : Frame) (b : othe
         ∙ ap (λ (k : ℕ). end_checks s.books (leaves_use p.target) k) (ne ∙ ap size_of_all these)
 
     rest : first_refusal (cs ++ ds) ≡ first_refusal (end_checks s.books aimed n)
-    rest = ok_first cs ds p.items ok ∙ ap first_refusal (sym same_checks)
+    rest = ok_first s.books.len cs ds p.items ok ∙ ap first_refusal (sym same_checks)
 
     pub no_space : (e : Refusal) → ◌≡◌ {A = Result (Unit {0}) Refusal} (Err e) (answer s.books.len (first_refusal (end_checks s.books aimed n)) tt) → Accesses standard s a t m fr (Err e) s
     no_space e h =
         not_written s (cs ++ ds) [] tt tt (written s p.items) e b (h ∙ ap (λ (o : Option Reason). answer s.books.len o tt) (sym rest))
 
-    module _ (h : ◌≡◌ {A = Result (Unit {0}) Refusal} (Ok tt) (answer s.books.len (first_refusal (end_checks s.books aimed n)) tt)) where
+    module _ {u : Unit {0}} (h : ◌≡◌ {A = Result (Unit {0}) Refusal} (Ok u) (answer s.books.len (first_refusal (end_checks s.books aimed n)) tt)) where
       nothing : plan_refusal standard s p ≡ None
       nothing = subst (λ (z : Bool). cond z (Some why.Buffer) (first_refusal (cs ++ ds)) ≡ None) (sym b) (rest ∙ none_of s.books.len (first_refusal (end_checks s.books aimed n)) h)
 

@@ -1,6 +1,6 @@
 -- Steps of calls, from what the functions below them answer.
-use Rattle.std.proofs.Common.{◌≡◌, ℕ, zero, suc, ◌+◌, ◌-◌, ◌≤◌, Bool, true, false, cond, not, ◌&&◌, ◌||◌, eqb, ltb, List, [], ◌∷◌, ◌++◌, length, take, replicate, ℤ, pos, is_some, Some, None, Ok, Err, Option, Result, sym, refl, ap, ◌∙◌, subst, arith}
-use Rattle.std.proofs.lemmas.Bool.{eqb-true}
+use Rattle.std.proofs.Common.{◌≡◌, ℕ, zero, suc, ◌+◌, ◌-◌, ◌≤◌, Bool, true, false, cond, not, ◌&&◌, ◌||◌, eqb, ltb, List, [], ◌∷◌, ◌++◌, length, take, replicate, ℤ, pos, is_some, Some, None, Ok, Err, Option, Result, MatchResult, IsErrAnd, sym, refl, ap, ◌∙◌, subst, arith}
+use Rattle.std.proofs.lemmas.Bool.{eqb-true, le-ltb}
 use Rattle.std.proofs.lemmas.List.{take-append-le, take_all}
 use Rattle.refusal.specs.declared.Reason.{Reason}
 use Rattle.refusal.specs.declared.Reason.TheVariants as why
@@ -22,12 +22,12 @@ use Rattle.book.specs.declared.target.Target.{Target}
 use Rattle.book.specs.Books.{leaves_use}
 use Rattle.settle_law.specs.Settle.{first_of}
 use Rattle.address.specs.declared.access.Aimed.{Aimed}
-use Rattle.law.specs.Section.{State, Call, written, written_one, other_buffer, section_refusal, open_answer, empty_books}
+use Rattle.law.specs.Section.{State, Call, written, written_one, other_buffer, section_refusal, open_answer, open_refusal, empty_books}
 use Rattle.field.specs.Family.{Fields, serves}
 use Rattle.section.specs.Extended.{extended}
 
 -- nothing refused it
-pub accepted : {X : Type 0} (o : Option Reason) (x : X) (s done t : State) → Ok x ≡ answer s.books.len o x → t ≡ done → Call o x s done (Ok x) t
+pub accepted : {X : Type 0} (o : Option Reason) (x : X) (s done t : State) {u : X} → Ok u ≡ answer s.books.len o x → t ≡ done → Call o x s done (Ok x) t
 accepted None x s done t h e = record { answers = refl; leaves = e }
 accepted (Some r) x s done t h e = absurd (ok_err refl h)
 
@@ -161,3 +161,13 @@ by_lone es f o z at i {r} e h =
 pub too_long : (L S : Fields) (code : List ℕ) → ltb 1048576 (length code) ≡ true → Err (refused_at 0 why.Buffer) ≡ open_answer L S code
 too_long L S code h =
     subst (λ (b : Bool). Err (refused_at 0 why.Buffer) ≡ answer 0 (cond b (Some why.Buffer) (first_refusal (why.Kind when not (serves L && serves S) ∷ []))) (empty_books code)) (sym h) refl
+
+pub nothing_refuses : (L S : Fields) (code : List ℕ) → length code ≤ 1048576 → (serves L && serves S) ≡ true → open_refusal L S code ≡ None
+nothing_refuses L S code h b = rw (le-ltb 1048576 (length code) h, b) refl
+
+-- want of memory, whose reason was given its place
+pub memory_at : {X : Type 0} (P : X → Type 0) {Q : Reason → Refusal → Type 0} (r : Result X Reason) (q : Refusal) {out : Result X Refusal}
+    → MatchResult r P (λ e. e ≡ why.Memory) → MatchResult r (λ x. out ≡ Ok x) (λ e. IsErrAnd out (Q e)) → ((e : Reason) (q : Refusal) → Q e q → q ≡ refused_at 0 e) → out ≡ Err q
+    → q ≡ refused_at 0 why.Memory
+memory_at P (Ok x) q m h k o = absurd (ok_err h o)
+memory_at P {Q = Q} (Err e) q m h k o = k e q (subst (λ z. IsErrAnd z (Q e)) o h) ∙ ap (refused_at 0) m

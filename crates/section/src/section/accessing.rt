@@ -1,5 +1,5 @@
 ghost use Rattle.std.specs.Prelude.{◌≡◌, List, [], ◌∷◌};
-ghost use Rattle.refusal.specs.Refusals.{first_refusal, answered};
+ghost use Rattle.refusal.specs.Refusals.{first_refusal, answered, answer};
 ghost use Rattle.address.specs.Access.{opcodes, plan as plan_of};
 ghost use Rattle.section.specs.Accessing.{opcode_checks, planned_checks};
 ghost use Rattle.refusal.specs.Tests.{any, all};
@@ -85,6 +85,18 @@ impl<L, S> Section<L, S> {
         plan(request, self.names_lost(&request.mem))
     }
 
+    /// The same, refused at the end of what is written.
+    fn planned_here(
+        &self,
+        catalogue: &Catalogue,
+        request: &MemAccess,
+    ) -> Result<AccessPlan, Refusal>
+        ensures { when_ok items_of result ≡ answer self.now.len (first_refusal (planned_checks (entries_in catalogue.now) (labels_in self.now.labels) (plan_of standard request.now.access request.now.may_trap request.now.mem request.now.frame.now))) (plan_of standard request.now.access request.now.may_trap request.now.mem request.now.frame.now).items }
+    {
+        self.planned(catalogue, request)
+            .map_err(|reason| Refusal::at(self.len, reason))
+    }
+
     /// Writes an instruction at the end, and records the use of what it is aimed at.
     fn write_item(&mut self, code: &mut [u8], item: &Aimed)
         requires { Fits (state self.old [] code.old) (item.now ∷ []) }
@@ -95,17 +107,22 @@ impl<L, S> Section<L, S> {
         }
     }
 
+    fn write_if(&mut self, code: &mut [u8], item: &Option<Aimed>)
+        requires { Fits (state self.old [] code.old) (listed item.now) }
+        ensures { (es : List Entry) → state self.new es code.new ≡ written (state self.old es code.old) (listed item.now) }
+    {
+        if let Some(item) = *item {
+            self.write_item(code, &item);
+        }
+    }
+
     /// Writes what an access was planned to write.
     fn write_plan(&mut self, code: &mut [u8], plan: &AccessPlan)
         requires { Fits (state self.old [] code.old) (items_of plan.now) }
         ensures { (es : List Entry) → state self.new es code.new ≡ written (state self.old es code.old) (items_of plan.now) }
     {
-        if let Some(first) = plan.first {
-            self.write_item(code, &first);
-        }
-        if let Some(second) = plan.second {
-            self.write_item(code, &second);
-        }
+        self.write_if(code, &plan.first);
+        self.write_if(code, &plan.second);
         self.write_item(code, &plan.access);
     }
 
@@ -123,9 +140,7 @@ impl<L, S> Section<L, S> {
         if self.is_other(code) {
             return Err(Refusal::at(self.len, Reason::Buffer));
         }
-        let plan = self
-            .planned(catalogue, request)
-            .map_err(|reason| Refusal::at(self.len, reason))?;
+        let plan = self.planned_here(catalogue, request)?;
         self.space(request.mem.target().is_some(), plan.size())?;
         self.write_plan(code, &plan);
         Ok(())

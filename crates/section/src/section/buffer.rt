@@ -2,6 +2,7 @@ ghost use Rattle.std.specs.Prelude.{◌≡◌, ◌+◌, ◌≤◌, false, ◌&&�
 ghost use Rattle.form.specs.declared.instr.Entry.{Entry};
 ghost use Rattle.refusal.specs.Refusals.{first_refusal, answer};
 ghost use Rattle.book.specs.Books.{uses_full, leaves_use};
+ghost use Rattle.book.specs.Listed.{uses_in};
 ghost use Rattle.settle_law.specs.Settle.{write_at};
 ghost use Rattle.law.specs.Section.{other_buffer, Call};
 ghost use Rattle.section.specs.State.{books_of, state};
@@ -41,9 +42,11 @@ impl<L, S> Section<L, S> {
 
     /// FULL and ROOM, where so many bytes more, aimed or not, cannot be written.
     pub(crate) fn space(&self, aimed: bool, count: usize) -> Result<(), Refusal>
-        ensures { result ≡ answer self.now.len (first_refusal (end_checks (books_of self.now) aimed count)) tt }
+        ensures answers { result ≡ answer self.now.len (first_refusal (end_checks (books_of self.now) aimed count)) tt }
+        ensures few { length (uses_in self.now.uses) ≤ 1024 }
     {
-        if aimed && self.uses.is_full() {
+        let full = self.uses.is_full();
+        if aimed && full {
             return Err(Refusal::at(self.len, Reason::Full));
         }
         if count > self.room - self.len {

@@ -1,4 +1,4 @@
-use Rattle.std.proofs.Common.{◌≡◌, Bool, Ok, Result, length, ◌∙◌, subst}
+use Rattle.std.proofs.Common.{◌≡◌, ℕ, Bool, Ok, Result, ◌∙◌, subst}
 use Rattle.refusal.specs.declared.Refusal.{Refusal}
 use Rattle.refusal.specs.Refusals.{first_refusal, answer}
 use Rattle.book.specs.Books.{leaves_use}
@@ -10,8 +10,8 @@ use Rattle.section.proofs.section.Section.append.Goals as goal
 pub returns : goal.returns
 returns g c es =
     let b = books_of c.args.self.now in
-    let n = length c.args.encoded.now in
+    let bytes = c.args.encoded.now in
     let s = state c.args.self.now es c.args.code.now in
-    accepted (first_refusal (end_checks b (leaves_use c.args.aim) n)) tt s (extended s c.args.encoded.now c.args.aim) (state c.extend.new.self es c.extend.new.code)
-    (subst (λ (a : Bool). ◌≡◌ {A = Result (Unit {0}) Refusal} (Ok tt) (answer b.len (first_refusal (end_checks b a n)) tt)) (c.is_some.ensures ∙ aimed_is c.args.aim) c.in_ok-space.ensures)
-    (c.extend.ensures es)
+    let aimed = subst (λ (a : Bool). Ok c.in_ok-space.field-0 ≡ answer b.len (first_refusal (end_checks b a c.len.result)) tt) (c.is_some.ensures ∙ aimed_is c.args.aim) c.in_ok-space.ensures.answers in
+    let long = subst (λ (n : ℕ). Ok c.in_ok-space.field-0 ≡ answer b.len (first_refusal (end_checks b (leaves_use c.args.aim) n)) tt) c.len.ensures aimed in
+    accepted _ tt s (extended s bytes c.args.aim) (state c.extend.new.self es c.extend.new.code) long (c.extend.ensures es)
