@@ -1,15 +1,15 @@
 -- The label family and the relocation family are lawful, and serve a section.
 use Rattle.std.specs.Prelude.{◌≡◌, ℕ, Bool, true, false, cond, pos, neg_ℤ, Some, None, ◌==◌, refl}
 use Rattle.std.proofs.Common.{sym, subst, arith}
-use Rattle.field.specs.Family.{FieldInfo, Fits, Lawful, serves, two_kinds, label_table, relocation_table, label_family, relocation_family}
+use Rattle.field.specs.Family.{FieldInfo, FitsWord, Lawful, serves, two_kinds, label_table, relocation_table, label_family, relocation_family}
 use Rattle.field.proofs.Laws.{never_none, same_some, overwriting}
 
-two_fit : (a : ℕ) (short long : FieldInfo) → Fits a short → Fits a long → (k : ℕ) (i : FieldInfo) → two_kinds short long k ≡ Some i → Fits a i
-two_fit a short long f g k i e = go (k == 1) (k == 2) e
+two_fit : (short long : FieldInfo) → FitsWord 2 short → FitsWord 2 long → (k : ℕ) (i : FieldInfo) → two_kinds short long k ≡ Some i → FitsWord 2 i
+two_fit short long f g k i e = go (k == 1) (k == 2) e
   where
-    go : (b c : Bool) → cond b (Some short) (cond c (Some long) None) ≡ Some i → Fits a i
-    go true c e = subst (Fits a) (same_some e) f
-    go false true e = subst (Fits a) (same_some e) g
+    go : (b c : Bool) → cond b (Some short) (cond c (Some long) None) ≡ Some i → FitsWord 2 i
+    go true c e = subst (FitsWord 2) (same_some e) f
+    go false true e = subst (FitsWord 2) (same_some e) g
     go false false e = never_none i (sym e)
 
 abbrev pub label_short : FieldInfo
@@ -24,23 +24,17 @@ relocation_short = record { lead = 2; size = 2; first = 0; past = 2; least = neg
 abbrev pub relocation_long : FieldInfo
 relocation_long = record { lead = 2; size = 4; first = 0; past = 4; least = neg_ℤ (pos 4294967296); greatest = pos 4294967294 }
 
-pub label_short_fits : Fits 2 label_short
-label_short_fits = omega arith
-
-pub label_long_fits : Fits 2 label_long
-label_long_fits = omega arith
+pub label_fits : (k : ℕ) (i : FieldInfo) → label_table k ≡ Some i → FitsWord 2 i
+label_fits = two_fit label_short label_long (omega arith) (omega arith)
 
 pub label_lawful : Lawful label_family
-label_lawful = overwriting 2 label_table (omega arith) (two_fit 2 label_short label_long label_short_fits label_long_fits)
+label_lawful = overwriting 2 label_table (omega arith) (λ k i e. (label_fits k i e).fits)
 
-pub relocation_short_fits : Fits 2 relocation_short
-relocation_short_fits = omega arith
-
-pub relocation_long_fits : Fits 2 relocation_long
-relocation_long_fits = omega arith
+pub relocation_fits : (k : ℕ) (i : FieldInfo) → relocation_table k ≡ Some i → FitsWord 2 i
+relocation_fits = two_fit relocation_short relocation_long (omega arith) (omega arith)
 
 pub relocation_lawful : Lawful relocation_family
-relocation_lawful = overwriting 2 relocation_table (omega arith) (two_fit 2 relocation_short relocation_long relocation_short_fits relocation_long_fits)
+relocation_lawful = overwriting 2 relocation_table (omega arith) (λ k i e. (relocation_fits k i e).fits)
 
 pub both_serve : (serves label_family.fields ≡ true) × (serves relocation_family.fields ≡ true)
 both_serve = (refl, refl)

@@ -3,6 +3,7 @@ ghost use Rattle.field.specs.Family.{relocation_family};
 ghost use Rattle.std.proofs.Common.{rules};
 ghost use Rattle.families.specs.Families.{relocation_lawful};
 
+use field::aligned::AlignedField;
 use field::family::{FieldPatch, FieldRead};
 use field::info::FieldInfo;
 use field::verdict::FieldRefusal;
@@ -38,7 +39,11 @@ impl FieldRead for Relocations {
     }
 
     fn held(kind: u8, bytes: &[u8]) -> Result<i64, FieldRefusal> {
-        Self::info(kind)?.held(Self::ALIGN, bytes)
+        AlignedField {
+            align: Self::ALIGN,
+            info: Self::info(kind)?,
+        }
+        .held(bytes)
     }
 }
 
@@ -48,6 +53,10 @@ impl FieldPatch for Relocations {
     ghost patches = { relocation_lawful };
 
     fn patch(kind: u8, bytes: &mut [u8], distance: i64) -> Result<(), FieldRefusal> {
-        Self::info(kind)?.overwrite(Self::ALIGN, bytes, distance)
+        AlignedField {
+            align: Self::ALIGN,
+            info: Self::info(kind)?,
+        }
+        .overwrite(bytes, distance)
     }
 }

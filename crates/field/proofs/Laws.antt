@@ -8,7 +8,7 @@ use Rattle.refusal.specs.Refusals.{answered, unless}
 use Rattle.refusal.specs.Numbers.{signed, wrap, big_endian, bytes_of_number}
 use Rattle.field.specs.declared.verdict.FieldRefusal.{FieldRefusal}
 use Rattle.field.specs.declared.verdict.FieldRefusal.TheVariants.{Kind, Far, Odd}
-use Rattle.field.specs.Family.{◌when◌, first_refused, FieldInfo, family, field_bytes, field_value, held_by, multiple, refuses_by, Fits, Patches, Lawful, overwritten}
+use Rattle.field.specs.Family.{◌when◌, first_refused, FieldInfo, family, field_bytes, field_value, held_by, multiple, told, refuses_by, Fits, Patches, Lawful, overwritten}
 use Rattle.field.proofs.Numbers.{number_length, held_back}
 
 pub never_none : {X P : Type 0} (x : X) → ◌≡◌ {A = Option X} (Some x) None → P
@@ -16,6 +16,11 @@ never_none x h = let z : ◌≡◌ {A = ℕ} 0 1 = cc in absurd (omega arith)
 
 pub same_some : {X : Type 0} {x y : X} → ◌≡◌ {A = Option X} (Some x) (Some y) → x ≡ y
 same_some h = cc
+
+-- the kind that a family has told of
+pub told_some : (o : Option FieldInfo) (i : FieldInfo) → ◌≡◌ {A = Result FieldInfo FieldRefusal} (told (λ j. j) o) (Ok i) → o ≡ Some i
+told_some None i e = let z : ◌≡◌ {A = ℕ} 0 1 = cc in absurd (omega arith)
+told_some (Some j) i e = cc
 
 -- a list of tests that refuses nothing
 pub none_refused : (ts : List (FieldRefusal × Bool)) → first_refused ts ≡ None → AllByRecursion (λ t. t.1 ≡ false) ts

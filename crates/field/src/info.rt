@@ -1,8 +1,7 @@
-ghost use Rattle.std.specs.Prelude.{◌≡◌, ◌+◌, ◌&&◌, ◌||◌, pos, ◌<ℤ◌, if◌then◌else◌, None, Ok, Some, ◌==◌, int_lt, length, unsigned_abs};
-ghost use Rattle.refusal.specs.Refusals.{answered, unless};
-ghost use Rattle.field.specs.Family.{spans, multiple, refuses_by, held_by, overwritten, FitsWord};
+ghost use Rattle.std.specs.Prelude.{◌≡◌, ◌+◌, ◌&&◌, ◌||◌, pos, ◌<ℤ◌, if◌then◌else◌, None, Some, ◌==◌, int_lt, unsigned_abs};
+ghost use Rattle.refusal.specs.Refusals.{answered};
+ghost use Rattle.field.specs.Family.{spans, multiple, refuses_by};
 
-use crate::bytes::{put_number, signed_number};
 use crate::verdict::FieldRefusal;
 
 /// What a family tells of one kind of field.
@@ -52,7 +51,7 @@ impl FieldInfo {
     }
 
     /// The distance, if the field can hold it in units of `align` among so many bytes, or why it cannot.
-    pub fn checked_distance(
+    pub(crate) fn checked_distance(
         self,
         align: i64,
         given: usize,
@@ -69,33 +68,5 @@ impl FieldInfo {
             return Err(FieldRefusal::Odd);
         }
         Ok(near)
-    }
-
-    /// The distance that the bytes hold in units of `align`.
-    pub fn held(self, align: i64, bytes: &[u8]) -> Result<i64, FieldRefusal>
-        requires align { pos 0 <ℤ align }
-        requires fits { FitsWord (unsigned_abs align) self }
-        ensures { result ≡ held_by (unsigned_abs align) (Some self) bytes.now }
-    {
-        if bytes.len() < self.size as usize {
-            return Err(FieldRefusal::Kind);
-        }
-        Ok(align * signed_number(&bytes[self.first as usize..self.past as usize]))
-    }
-
-    /// Overwrites the field with a distance in units of `align`. Refused, no byte changes; accepted, the bytes hold the distance.
-    pub fn overwrite(self, align: i64, bytes: &mut [u8], distance: i64) -> Result<(), FieldRefusal>
-        requires align { pos 0 <ℤ align }
-        requires fits { FitsWord (unsigned_abs align) self }
-        ensures answers { result ≡ answered (refuses_by (unsigned_abs align) (Some self) (length bytes.old) distance) tt }
-        ensures leaves { bytes.new ≡ unless (refuses_by (unsigned_abs align) (Some self) (length bytes.old) distance) (overwritten (unsigned_abs align) (Some self) bytes.old distance) bytes.old }
-        ensures holds { result ≡ Ok tt → held_by (unsigned_abs align) (Some self) bytes.new ≡ Ok distance }
-    {
-        let distance = self.checked_distance(align, bytes.len(), distance as i128)?;
-        put_number(
-            &mut bytes[self.first as usize..self.past as usize],
-            distance / align,
-        );
-        Ok(())
     }
 }

@@ -2,6 +2,7 @@
 
 #![tactic(auto)]
 
+pub mod aligned;
 mod bytes;
 pub mod distance;
 pub mod family;

@@ -5,7 +5,7 @@ use Rattle.std.specs.Int.Signed.{mag}
 use Rattle.std.specs.List.{AllByRecursion}
 use Rattle.std.proofs.lemmas.Int.{ints}
 use Rattle.refusal.specs.Numbers.{wrap, signed}
-use Rattle.field.specs.Family.{FieldInfo, refuses_by, Shape, Fits, Patches, Lawful}
+use Rattle.field.specs.Family.{FieldInfo, refuses_by, FitsWord, Patches, Lawful}
 use Rattle.field.proofs.Numbers.{signed_wrap, wrap_below}
 use Rattle.field.proofs.Laws.{Accepted, accepted, never_none, same_some, near, overwriting}
 use Rattle.field_tests.specs.Samples.{one_kind, added_info, added, added_family, quarter_info, quarter_family}
@@ -19,13 +19,16 @@ one_is n i k j e = go (k == n) e
 
 -- The family that overwrites two bytes.
 
-pub quarter_fits : Fits 4 quarter_info
-quarter_fits = omega arith
+pub quarter_fits : (k : ℕ) (i : FieldInfo) → one_kind 0 quarter_info k ≡ Some i → FitsWord 4 i
+quarter_fits k i e = subst (FitsWord 4) (one_is 0 quarter_info k i e) (omega arith)
 
 pub quarter_lawful : Lawful quarter_family
-quarter_lawful = overwriting 4 (one_kind 0 quarter_info) (omega arith) (λ k i e. subst (Fits 4) (one_is 0 quarter_info k i e) quarter_fits)
+quarter_lawful = overwriting 4 (one_kind 0 quarter_info) (omega arith) (λ k i e. (quarter_fits k i e).fits)
 
 -- The family that adds to one.
+
+pub added_fits : (k : ℕ) (i : FieldInfo) → one_kind 7 added_info k ≡ Some i → FitsWord 1 i
+added_fits k i e = subst (FitsWord 1) (one_is 7 added_info k i e) (omega arith)
 
 unit : (z : ℤ) → pos 1 *ℤ z ≡ z
 unit (pos n) = ap pos (omega arith)
@@ -52,7 +55,7 @@ adds k (b ∷ bs) d h a =
 pub added_lawful : Lawful added_family
 added_lawful =
     record {
-      reads = record { aligned = omega arith; shaped = λ k i e. subst Shape (one_is 7 added_info k i e) (omega arith) };
+      reads = record { aligned = omega arith; shaped = λ k i e. (added_fits k i e).fits.shape };
       patches = λ k i bytes d bs e ok.
           subst Adds (one_is 7 added_info k i e) adds k bytes d bs
           (accepted 1 i (length bytes) d (subst (λ (o : Option FieldInfo). refuses_by 1 o (length bytes) d ≡ None) e ok));

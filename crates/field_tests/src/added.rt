@@ -4,6 +4,7 @@ ghost use Rattle.field_tests.specs.Samples.{added_family};
 ghost use Rattle.std.proofs.Common.{rules};
 ghost use Rattle.field_tests.specs.SamplesLemmas.{added_lawful};
 
+use field::aligned::AlignedField;
 use field::family::{FieldPatch, FieldRead};
 use field::info::FieldInfo;
 use field::verdict::FieldRefusal;
@@ -50,7 +51,11 @@ impl FieldRead for Added {
     }
 
     fn held(kind: u8, bytes: &[u8]) -> Result<i64, FieldRefusal> {
-        Self::info(kind)?.held(Self::ALIGN, bytes)
+        AlignedField {
+            align: Self::ALIGN,
+            info: Self::info(kind)?,
+        }
+        .held(bytes)
     }
 }
 

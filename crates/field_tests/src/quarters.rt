@@ -3,6 +3,7 @@ ghost use Rattle.field_tests.specs.Samples.{quarter_family};
 ghost use Rattle.std.proofs.Common.{rules};
 ghost use Rattle.field_tests.specs.SamplesLemmas.{quarter_lawful};
 
+use field::aligned::AlignedField;
 use field::family::{FieldPatch, FieldRead};
 use field::info::FieldInfo;
 use field::verdict::FieldRefusal;
@@ -36,7 +37,11 @@ impl FieldRead for Quarters {
     }
 
     fn held(kind: u8, bytes: &[u8]) -> Result<i64, FieldRefusal> {
-        Self::info(kind)?.held(Self::ALIGN, bytes)
+        AlignedField {
+            align: Self::ALIGN,
+            info: Self::info(kind)?,
+        }
+        .held(bytes)
     }
 }
 
@@ -46,6 +51,10 @@ impl FieldPatch for Quarters {
     ghost patches = { quarter_lawful };
 
     fn patch(kind: u8, bytes: &mut [u8], distance: i64) -> Result<(), FieldRefusal> {
-        Self::info(kind)?.overwrite(Self::ALIGN, bytes, distance)
+        AlignedField {
+            align: Self::ALIGN,
+            info: Self::info(kind)?,
+        }
+        .overwrite(bytes, distance)
     }
 }
