@@ -41,6 +41,13 @@ const BCR: Entry = Entry {
     opcode: 0x07,
 };
 
+/// BCR to the address in register 14.
+const RETURN: Instr = Instr {
+    form: Form::Rr,
+    opcode: 0x07,
+    operands: [15, 14, 0, 0, 0, 0],
+};
+
 /// A catalogue with the routine's opcodes.
 fn opcodes(heap: Global) -> Result<Catalogue, Refusal>
     ensures { Opcodes result }
@@ -94,7 +101,7 @@ fn emit(section: &mut Code, catalogue: &Catalogue, code: &mut [u8]) -> Result<()
     }
     branch?;
     loaded?;
-    section.put(catalogue, code, &Instr::new(BCR, [15, 14, 0, 0, 0, 0]))
+    section.put(catalogue, code, &RETURN)
 }
 
 /// Returns at once where the condition code is 0; else loads the second doubleword of a table that stands 16 bytes from the start, and

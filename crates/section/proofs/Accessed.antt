@@ -5,7 +5,7 @@ use Rattle.std.proofs.lemmas.Bool.{leb-false}
 use Rattle.refusal.specs.declared.Reason.{Reason}
 use Rattle.refusal.specs.declared.Reason.TheVariants as why
 use Rattle.refusal.specs.declared.Refusal.{Refusal}
-use Rattle.refusal.specs.Refusals.{Checks, first_refusal, answered, answer, refused_at}
+use Rattle.refusal.specs.Refusals.{Checks, first_refusal, answer}
 use Rattle.form.specs.declared.instr.Entry.{Entry}
 use Rattle.form.specs.Form.{kinds}
 use Rattle.form.specs.Encode.{takes}

@@ -1,5 +1,4 @@
-use Rattle.std.proofs.Common.{◌≡◌, ℕ, Bool, Ok, Result, ◌∙◌, subst}
-use Rattle.refusal.specs.declared.Refusal.{Refusal}
+use Rattle.std.proofs.Common.{◌≡◌, ℕ, Bool, Ok, ◌∙◌, subst}
 use Rattle.refusal.specs.Refusals.{first_refusal, answer}
 use Rattle.book.specs.Books.{leaves_use}
 use Rattle.section.specs.State.{books_of, state}

@@ -1,5 +1,4 @@
-use Rattle.std.proofs.Common.{List, Ok, sym, refl}
-use Rattle.form.specs.declared.instr.Entry.{Entry}
+use Rattle.std.proofs.Common.{Ok, sym, refl}
 use Rattle.field.specs.Family.{Family, family}
 use Rattle.address.specs.Convention.{standard}
 use Rattle.law.specs.Section.{Closes}

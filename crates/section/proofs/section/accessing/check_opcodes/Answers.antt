@@ -1,4 +1,4 @@
-use Rattle.std.proofs.Common.{◌≡◌, Bool, sym, ap, ◌∙◌}
+use Rattle.std.proofs.Common.{Bool, sym, ap, ◌∙◌}
 use Rattle.refusal.specs.Tests.{any, all}
 use Rattle.form.specs.declared.instr.Entry.{Entry}
 use Rattle.catalogue_law.specs.Catalogue.{misfit, catalogued}
