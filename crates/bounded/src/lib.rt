@@ -31,10 +31,8 @@ impl<T, const MOST: usize> Bounded<T, MOST> {
     pub fn new(heap: Global) -> Result<Bounded<T, MOST>, Reason>
         ensures { MatchResult result (λ b. b ≡ []) (λ e. e ≡ Memory) }
     {
-        match Vec::with_capacity(heap, MOST) {
-            Ok(items) => Ok(Bounded { items }),
-            Err(_) => Err(Reason::Memory),
-        }
+        let items = Vec::with_capacity(heap, MOST).map_err(|_| Reason::Memory)?;
+        Ok(Bounded { items })
     }
 
     /// Whether no more items can be added.
