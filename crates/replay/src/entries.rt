@@ -2,8 +2,7 @@ use crate::Answered;
 use crate::fault::Fault;
 use crate::words::Args;
 use catalogue::catalogue::Catalogue;
-use form::instr::Entry;
-use form::instr::Placed;
+use form::instr::{Entry, Placed};
 use refusal::Refusal;
 
 /// The instruction that the bytes begin with, if there are any.
