@@ -119,8 +119,3 @@ clean_stop R row xs k d h e = clean_more R row xs k d h ∙ ap (λ (b : Bool). b
 pub clean_go : (R : List form.Digit) (row : List Digit) (xs : List ℕ) (k : ℕ) (d : Digit) → k < length row
     → digit_clean R (digit_of (get_or row k d)) (get_or xs k 0) ≡ true → clean_at R (map digit_of (drop k row)) xs k ≡ clean_at R (map digit_of (drop (k + 1) row)) xs (k + 1)
 clean_go R row xs k d h e = clean_more R row xs k d h ∙ ap (λ (b : Bool). b && clean_at R (map digit_of (drop (k + 1) row)) xs (k + 1)) e
-
-pub get_or_any : {X : Type 0} (xs : List X) (i : ℕ) (d e : X) → i < length xs → get_or xs i d ≡ get_or xs i e
-get_or_any [] i d e h = absurd (omega arith)
-get_or_any (x ∷ xs) zero d e h = refl
-get_or_any (x ∷ xs) (suc i) d e h = get_or_any xs i d e (omega arith)

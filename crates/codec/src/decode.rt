@@ -166,11 +166,9 @@ fn operand(form: Form, bytes: &[u8], i: usize) -> i64
     requires { length bytes.now ≡ size_of form }
     ensures { result ≡ operand_at (kinds_of form) (row_of form) (nibbles bytes.now) i }
 {
-    let kinds = form.kinds();
-    if i < kinds.len() {
-        number(kinds[i], field_of(i, row(form), bytes))
-    } else {
-        0
+    match form.kinds().get(i) {
+        Some(kind) => number(*kind, field_of(i, row(form), bytes)),
+        None => 0,
     }
 }
 

@@ -37,10 +37,8 @@ fn is_taken(form: Form, i: usize, z: i64) -> bool
 pub fn takes(form: Form, operands: &[i64; 6]) -> bool
     ensures { result ≡ takes_them (kinds_of form) operands.now }
 {
-    for i in 0..6 {
-        if !is_taken(form, i, operands[i]) {
-            return false;
-        }
-    }
-    true
+    operands
+        .iter()
+        .enumerate()
+        .all(|(i, z)| is_taken(form, i, *z))
 }
