@@ -111,8 +111,10 @@ operands_more i (k ∷ ks) ds xs n h = rw (field_more i ds xs n h, operands_more
 row_within : (f : Form) (bs : List ℕ) → length bs ≡ form.size f → length (form.row f) ≤ length (nibbles bs)
 row_within f bs e = let a = even_row_size f in let b = nibbles_len bs in omega (arith, a, b, e)
 
-pub clean_of : (f : Form) (bs : List ℕ) → length bs ≡ form.size f → all_clean (form.row f) (form.row f) (twelve (nibbles bs)) ≡ clean f bs
-clean_of f bs e = clean_more (form.row f) (form.row f) (nibbles bs) _ (row_within f bs e)
+-- what a row of form g and digits ds say, laid for the form f and the bytes bs
 
-pub operands_of_is : (f : Form) (bs : List ℕ) → length bs ≡ form.size f → six (operands_from 0 (form.kinds f) (form.row f) (twelve (nibbles bs))) ≡ operands_of f bs
-operands_of_is f bs e = ap six (operands_more 0 (form.kinds f) (form.row f) (nibbles bs) _ (row_within f bs e))
+pub clean_of : (g f : Form) (ds bs : List ℕ) → g ≡ f → ds ≡ twelve (nibbles bs) → length bs ≡ form.size f → all_clean (form.row g) (form.row g) ds ≡ clean f bs
+clean_of g f ds bs e h s = rw (e, h) (clean_more (form.row f) (form.row f) (nibbles bs) _ (row_within f bs s))
+
+pub operands_in : (g f : Form) (ds bs : List ℕ) → g ≡ f → ds ≡ twelve (nibbles bs) → length bs ≡ form.size f → six (operands_from 0 (form.kinds g) (form.row g) ds) ≡ operands_of f bs
+operands_in g f ds bs e h s = rw (e, h) (ap six (operands_more 0 (form.kinds f) (form.row f) (nibbles bs) _ (row_within f bs s)))

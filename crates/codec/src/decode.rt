@@ -203,13 +203,14 @@ impl Laid {
     fn operands(&self) -> [i64; 6]
         ensures { result ≡ six (operands_from 0 (kinds_of self.now.form) (row_of self.now.form) self.now.digits) }
     {
-        let a = self.operand(0);
-        let b = self.operand(1);
-        let c = self.operand(2);
-        let d = self.operand(3);
-        let e = self.operand(4);
-        let f = self.operand(5);
-        [a, b, c, d, e, f]
+        [
+            self.operand(0),
+            self.operand(1),
+            self.operand(2),
+            self.operand(3),
+            self.operand(4),
+            self.operand(5),
+        ]
     }
 
     /// Whether no bit of RXB, which is x, is set but those of vector registers.
