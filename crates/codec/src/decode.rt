@@ -193,10 +193,10 @@ impl Laid {
     fn operand(&self, i: usize) -> i64
         ensures { result ≡ operand_at (kinds_of self.now.form) (row_of self.now.form) self.now.digits i }
     {
-        match self.form.kinds().get(i) {
-            Some(kind) => number(*kind, self.field(i)),
-            None => 0,
-        }
+        self.form
+            .kinds()
+            .get(i)
+            .map_or(0, |kind| number(*kind, self.field(i)))
     }
 
     /// The six operands, the unused ones 0.

@@ -27,10 +27,7 @@ fn is_in(kind: OperandKind, z: i64) -> bool
 fn is_taken(form: Form, i: usize, z: i64) -> bool
     ensures { result ≡ taken_at (kinds_of form) i z }
 {
-    match form.kinds().get(i) {
-        Some(kind) => is_in(*kind, z),
-        None => z == 0,
-    }
+    form.kinds().get(i).map_or(z == 0, |kind| is_in(*kind, z))
 }
 
 /// Whether the operands are of the form's kinds, the unused ones 0.
