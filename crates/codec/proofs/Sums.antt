@@ -1,19 +1,15 @@
--- Sums of digits, step by step.
-use Rattle.std.proofs.Common.{◌≡◌, ℕ, zero, suc, ◌+◌, ◌*◌, ◌/◌, ◌%◌, ◌<◌, ◌≤◌, Bool, ◌&&◌, ltb, List, [], ◌∷◌, map, length, get_or, sym, refl, ap, ◌∙◌, arith}
+-- Digits beside a row: sums, what is clean, and zeros past the end.
+use Rattle.std.proofs.Common.{◌≡◌, ℕ, zero, suc, ◌+◌, ◌*◌, ◌/◌, ◌%◌, ◌<◌, ◌≤◌, Bool, ◌&&◌, ltb, List, [], ◌∷◌, map, length, get_or, sym, refl, ap, ◌∙◌, arith, ◌++◌, ◌-◌, replicate, ◌⊎◌, inl, inr}
 use Rattle.form.specs.Form as form
 use Rattle.form.specs.Form.{unused}
-use Rattle.form.specs.Encode.{nibbles, gather}
+use Rattle.form.specs.Encode.{nibbles, gather, field_of, operand_part, operands_from, operands_of, six, clean, all_clean, digit_clean, opcode_of}
 use Rattle.form.proofs.Tests.{ltb_is}
 use Rattle.form.proofs.Every.{at_each}
 use Rattle.codec.specs.declared.row.Digit.{Digit}
-use Rattle.codec.specs.Digits.{digit_of}
+use Rattle.codec.specs.Digits.{digit_of, twelve}
 use Rattle.std.specs.List.{list_all, zip}
-use Rattle.std.proofs.Common.{◌++◌, ◌-◌, replicate, ◌⊎◌, inl, inr}
 use Rattle.form.specs.declared.OperandKind.{OperandKind}
-use Rattle.form.specs.Encode.{field_of, operand_part, operands_from, operands_of, six, clean}
-use Rattle.codec.specs.Digits.{twelve}
 use Rattle.form.specs.declared.Form.{Form}
-use Rattle.form.specs.Encode.{all_clean, digit_clean, opcode_of}
 use Rattle.form.specs.declared.table.OpcodeDigits.{OpcodeDigits}
 use Rattle.form.specs.declared.table.OpcodeDigits.TheVariants.{Two, Three, FourFront, FourEnds}
 use Rattle.form.specs.Table.{places}
