@@ -1,19 +1,19 @@
--- Sums of digits, step by step.
-use Rattle.std.proofs.Common.{◌≡◌, ℕ, zero, suc, ◌+◌, ◌*◌, ◌/◌, ◌%◌, ◌<◌, ◌≤◌, Bool, true, false, ◌&&◌, ltb, List, [], ◌∷◌, map, length, get_or, drop, sym, refl, ap, ◌∙◌, add-one, arith, drop-cons}
+-- Digits beside a row: sums, what is clean, and zeros past the end.
+use Rattle.std.proofs.Common.{◌≡◌, ℕ, zero, suc, ◌+◌, ◌*◌, ◌/◌, ◌%◌, ◌<◌, ◌≤◌, Bool, ◌&&◌, ltb, List, [], ◌∷◌, map, length, get_or, sym, refl, ap, ◌∙◌, arith, ◌++◌, ◌-◌, replicate, ◌⊎◌, inl, inr}
 use Rattle.form.specs.Form as form
 use Rattle.form.specs.Form.{unused}
-use Rattle.form.specs.Encode.{nibbles, gather}
-use Rattle.form.proofs.Tests.{left, right, ltb_is}
+use Rattle.form.specs.Encode.{nibbles, gather, field_of, operand_part, operands_from, operands_of, six, clean, all_clean, digit_clean, opcode_of}
+use Rattle.form.proofs.Tests.{ltb_is}
 use Rattle.form.proofs.Every.{at_each}
 use Rattle.codec.specs.declared.row.Digit.{Digit}
-use Rattle.codec.specs.Digits.{digit_of}
-use Rattle.refusal.specs.Tests.{all}
+use Rattle.codec.specs.Digits.{digit_of, twelve}
+use Rattle.std.specs.List.{list_all, zip}
+use Rattle.form.specs.declared.OperandKind.{OperandKind}
 use Rattle.form.specs.declared.Form.{Form}
-use Rattle.form.specs.Encode.{all_clean, digit_clean, opcode_of}
 use Rattle.form.specs.declared.table.OpcodeDigits.{OpcodeDigits}
 use Rattle.form.specs.declared.table.OpcodeDigits.TheVariants.{Two, Three, FourFront, FourEnds}
 use Rattle.form.specs.Table.{places}
-use Rattle.codec.proofs.Gathered.{gather_at, gather_is, nibbles_len, opc, opcode_is, even_row_size}
+use Rattle.codec.proofs.Gathered.{nibbles_len, opc, opcode_is, even_row_size}
 
 pub nib_even : (bs : List ℕ) (j : ℕ) → get_or (nibbles bs) (2 * j) 0 ≡ get_or bs j 0 / 16
 nib_even [] j = refl
@@ -30,33 +30,6 @@ nib_at_even bs i h = let e : i ≡ 2 * (i / 2) = omega arith in ap (λ (n : ℕ)
 
 pub nib_at_odd : (bs : List ℕ) (i : ℕ) → (i % 2 ≡ 0 → ⊥) → get_or (nibbles bs) i 0 ≡ get_or bs (i / 2) 0 % 16
 nib_at_odd bs i h = let e : i ≡ 2 * (i / 2) + 1 = omega arith in ap (λ (n : ℕ). get_or (nibbles bs) n 0) e ∙ nib_odd bs (i / 2)
-
-pub all_at : {X : Type 0} (p : X → Bool) (xs : List X) (i : ℕ) (d : X) → all p xs ≡ true → i < length xs → p (get_or xs i d) ≡ true
-all_at p [] i d h l = absurd (omega arith)
-all_at p (x ∷ xs) zero d h l = left (p x) (all p xs) h
-all_at p (x ∷ xs) (suc i) d h l = all_at p xs i d (right (p x) (all p xs) h) (omega arith)
-
-pub map_length : {X Y : Type 0} (g : X → Y) (xs : List X) → length (map g xs) ≡ length xs
-map_length g [] = refl
-map_length g (x ∷ xs) = ap suc (map_length g xs)
-
--- one more digit is taken into the sum
-pub sum_more : (w : form.Digit → ℕ → ℕ) (row : List Digit) (xs : List ℕ) (k : ℕ) (d : Digit) → k < length row
-    → gather_at w (map digit_of (drop k row)) xs k ≡ w (digit_of (get_or row k d)) (get_or xs k 0) + gather_at w (map digit_of (drop (k + 1) row)) xs (k + 1)
-sum_more w row xs k d h = rw (add-one, drop-cons row k d h)
-
-drop_none : {X : Type 0} (xs : List X) (k : ℕ) → length xs ≤ k → drop k xs ≡ []
-drop_none [] zero h = refl
-drop_none [] (suc k) h = refl
-drop_none (x ∷ xs) zero h = absurd (omega arith)
-drop_none (x ∷ xs) (suc k) h = drop_none xs k (omega arith)
-
-pub sum_none : (w : form.Digit → ℕ → ℕ) (row : List Digit) (xs : List ℕ) (k : ℕ) → length row ≤ k → gather_at w (map digit_of (drop k row)) xs k ≡ 0
-sum_none w row xs k h = ap (λ (l : List Digit). gather_at w (map digit_of l) xs k) (drop_none row k h)
-
-pub sum_whole : (w : form.Digit → ℕ → ℕ) (row : List Digit) (bs : List ℕ) → length row ≡ 2 * length bs
-    → gather_at w (map digit_of (drop 0 row)) (nibbles bs) 0 ≡ gather w (map digit_of row) (nibbles bs)
-sum_whole w row bs e = sym (gather_is w (map digit_of row) (nibbles bs) (nibbles_len bs ∙ sym e ∙ sym (map_length digit_of row)))
 
 abbrev pub opb : OpcodeDigits → List ℕ → ℕ
 opb Two bs = get_or bs 0 0
@@ -79,48 +52,65 @@ few_kinds f = let h = ltb_is (length (form.kinds f)) 7 (at_each (λ f. ltb (leng
 pub few_bytes : (f : Form) → form.size f ≤ 6
 few_bytes f = let h = ltb_is (form.size f) 7 (at_each (λ f. ltb (form.size f) 7) refl f) in omega arith
 
-pub row_lengths : (f : Form) (row : List Digit) (bs : List ℕ) → map digit_of row ≡ form.row f → length bs ≡ form.size f → (length row ≡ 2 * length bs) × (length row ≤ 12)
-row_lengths f row bs e s =
-    let a = map_length digit_of row in
-    let b = ap length e in
-    let c = even_row_size f in
-    let d = few_bytes f in
-    let l : length row ≡ 2 * form.size f = sym a ∙ b ∙ c in
-    (l ∙ ap (λ (n : ℕ). 2 * n) (sym s), rw l (omega (arith, d)))
+-- a row and digits that stand side by side
+pub clean_is : (R : List form.Digit) (row : List Digit) (xs : List ℕ) → all_clean R (map digit_of row) xs ≡ list_all (λ p. digit_clean R (digit_of p.0) p.1) (zip row xs)
+clean_is R [] xs = refl
+clean_is R (d ∷ ds) [] = refl
+clean_is R (d ∷ ds) (x ∷ xs) = ap (λ (b : Bool). digit_clean R (digit_of d) x && b) (clean_is R ds xs)
 
-abbrev pub clean_at : List form.Digit → List form.Digit → List ℕ → ℕ → Bool
-clean_at R [] xs i = true
-clean_at R (d ∷ ds) xs i = digit_clean R d (get_or xs i 0) && clean_at R ds xs (suc i)
+pub gather_none : (w : form.Digit → ℕ → ℕ) (row : List Digit) (xs : List ℕ) → (row ≡ []) ⊎ (xs ≡ []) → gather w (map digit_of row) xs ≡ 0
+gather_none w row xs (inl e) = ap (λ (l : List Digit). gather w (map digit_of l) xs) e
+gather_none w [] xs (inr e) = refl
+gather_none w (d ∷ ds) xs (inr e) = ap (gather w (map digit_of (d ∷ ds))) e
 
-clean_shift : (R ds : List form.Digit) (x : ℕ) (xs : List ℕ) (i : ℕ) → clean_at R ds (x ∷ xs) (suc i) ≡ clean_at R ds xs i
-clean_shift R [] x xs i = refl
-clean_shift R (d ∷ ds) x xs i = ap (λ (b : Bool). digit_clean R d (get_or xs i 0) && b) (clean_shift R ds x xs (suc i))
+next : {x y : ℕ} {xs ys : List ℕ} → x ≡ y → xs ≡ ys → (x ∷ xs) ≡ (y ∷ ys)
+next {x} {y} {xs} {ys} e h = ap (λ (n : ℕ). n ∷ xs) e ∙ ap (λ (l : List ℕ). y ∷ l) h
 
-pub clean_is : (R ds : List form.Digit) (xs : List ℕ) → length xs ≡ length ds → all_clean R ds xs ≡ clean_at R ds xs 0
-clean_is R [] xs e = refl
-clean_is R (d ∷ ds) [] e = absurd (omega arith)
-clean_is R (d ∷ ds) (x ∷ xs) e = ap (λ (b : Bool). digit_clean R d x && b) (clean_is R ds xs (omega arith) ∙ sym (clean_shift R ds x xs 0))
+-- twelve digits, told apart by their places
+padded : (xs : List ℕ) (m : ℕ) (ds : List ℕ) → length ds ≡ length xs + m → ((i : ℕ) → i < length ds → get_or ds i 0 ≡ get_or xs i 0) → ds ≡ xs ++ replicate m 0
+padded [] zero [] l e = refl
+padded [] (suc m) [] l e = absurd (omega arith)
+padded [] zero (d ∷ ds) l e = absurd (omega arith)
+padded [] (suc m) (d ∷ ds) l e = next (e 0 (omega arith)) (padded [] m ds (omega arith) (λ i h. e (suc i) (omega arith)))
+padded (x ∷ xs) m [] l e = absurd (omega arith)
+padded (x ∷ xs) m (d ∷ ds) l e = next (e 0 (omega arith)) (padded xs m ds (omega arith) (λ i h. e (suc i) (omega arith)))
 
-pub clean_more : (R : List form.Digit) (row : List Digit) (xs : List ℕ) (k : ℕ) (d : Digit) → k < length row
-    → clean_at R (map digit_of (drop k row)) xs k ≡ (digit_clean R (digit_of (get_or row k d)) (get_or xs k 0) && clean_at R (map digit_of (drop (k + 1) row)) xs (k + 1))
-clean_more R row xs k d h = rw (add-one, drop-cons row k d h)
+pub twelve_is : (ds xs : List ℕ) → length ds ≡ 12 → length xs ≤ 12 → ((i : ℕ) → i < 12 → get_or ds i 0 ≡ get_or xs i 0) → ds ≡ twelve xs
+twelve_is ds xs l m e = padded xs (12 - length xs) ds (omega arith) (λ i h. e i (omega arith))
 
-pub clean_none : (R : List form.Digit) (row : List Digit) (xs : List ℕ) (k : ℕ) → length row ≤ k → clean_at R (map digit_of (drop k row)) xs k ≡ true
-clean_none R row xs k h = ap (λ (l : List Digit). clean_at R (map digit_of l) xs k) (drop_none row k h)
+-- zeros past the row say nothing
 
-pub clean_whole : (row : List Digit) (bs : List ℕ) → length row ≡ 2 * length bs
-    → clean_at (map digit_of row) (map digit_of row) (nibbles bs) 0 ≡ all_clean (map digit_of row) (map digit_of row) (nibbles bs)
-clean_whole row bs e = sym (clean_is (map digit_of row) (map digit_of row) (nibbles bs) (nibbles_len bs ∙ sym e ∙ sym (map_length digit_of row)))
+gather_more : (w : form.Digit → ℕ → ℕ) (ds : List form.Digit) (xs ys : List ℕ) → length ds ≤ length xs → gather w ds (xs ++ ys) ≡ gather w ds xs
+gather_more w [] xs ys h = refl
+gather_more w (d ∷ ds) [] ys h = absurd (omega arith)
+gather_more w (d ∷ ds) (x ∷ xs) ys h = ap (λ (n : ℕ). w d x + n) (gather_more w ds xs ys (omega arith))
 
-pub clean_stop : (R : List form.Digit) (row : List Digit) (xs : List ℕ) (k : ℕ) (d : Digit) → k < length row
-    → digit_clean R (digit_of (get_or row k d)) (get_or xs k 0) ≡ false → clean_at R (map digit_of (drop k row)) xs k ≡ false
-clean_stop R row xs k d h e = clean_more R row xs k d h ∙ ap (λ (b : Bool). b && clean_at R (map digit_of (drop (k + 1) row)) xs (k + 1)) e
+clean_more : (R ds : List form.Digit) (xs ys : List ℕ) → length ds ≤ length xs → all_clean R ds (xs ++ ys) ≡ all_clean R ds xs
+clean_more R [] xs ys h = refl
+clean_more R (d ∷ ds) [] ys h = absurd (omega arith)
+clean_more R (d ∷ ds) (x ∷ xs) ys h = ap (λ (b : Bool). digit_clean R d x && b) (clean_more R ds xs ys (omega arith))
 
-pub clean_go : (R : List form.Digit) (row : List Digit) (xs : List ℕ) (k : ℕ) (d : Digit) → k < length row
-    → digit_clean R (digit_of (get_or row k d)) (get_or xs k 0) ≡ true → clean_at R (map digit_of (drop k row)) xs k ≡ clean_at R (map digit_of (drop (k + 1) row)) xs (k + 1)
-clean_go R row xs k d h e = clean_more R row xs k d h ∙ ap (λ (b : Bool). b && clean_at R (map digit_of (drop (k + 1) row)) xs (k + 1)) e
+zeros : (xs : List ℕ) (n i : ℕ) → get_or (xs ++ replicate n 0) i 0 ≡ get_or xs i 0
+zeros [] zero i = refl
+zeros [] (suc n) zero = refl
+zeros [] (suc n) (suc i) = zeros [] n i
+zeros (x ∷ xs) n zero = refl
+zeros (x ∷ xs) n (suc i) = zeros xs n i
 
-pub get_or_any : {X : Type 0} (xs : List X) (i : ℕ) (d e : X) → i < length xs → get_or xs i d ≡ get_or xs i e
-get_or_any [] i d e h = absurd (omega arith)
-get_or_any (x ∷ xs) zero d e h = refl
-get_or_any (x ∷ xs) (suc i) d e h = get_or_any xs i d e (omega arith)
+field_more : (i : ℕ) (ds : List form.Digit) (xs : List ℕ) (n : ℕ) → length ds ≤ length xs → field_of i ds (xs ++ replicate n 0) ≡ field_of i ds xs
+field_more i ds xs n h = rw (gather_more (operand_part i) ds xs (replicate n 0) h, zeros xs n 9) refl
+
+operands_more : (i : ℕ) (ks : List OperandKind) (ds : List form.Digit) (xs : List ℕ) (n : ℕ) → length ds ≤ length xs → operands_from i ks ds (xs ++ replicate n 0) ≡ operands_from i ks ds xs
+operands_more i [] ds xs n h = refl
+operands_more i (k ∷ ks) ds xs n h = rw (field_more i ds xs n h, operands_more (suc i) ks ds xs n h) refl
+
+row_within : (f : Form) (bs : List ℕ) → length bs ≡ form.size f → length (form.row f) ≤ length (nibbles bs)
+row_within f bs e = let a = even_row_size f in let b = nibbles_len bs in omega (arith, a, b, e)
+
+-- what a row of form g and digits ds say, laid for the form f and the bytes bs
+
+pub clean_of : (g f : Form) (ds bs : List ℕ) → g ≡ f → ds ≡ twelve (nibbles bs) → length bs ≡ form.size f → all_clean (form.row g) (form.row g) ds ≡ clean f bs
+clean_of g f ds bs e h s = rw (e, h) (clean_more (form.row f) (form.row f) (nibbles bs) _ (row_within f bs s))
+
+pub operands_in : (g f : Form) (ds bs : List ℕ) → g ≡ f → ds ≡ twelve (nibbles bs) → length bs ≡ form.size f → six (operands_from 0 (form.kinds g) (form.row g) ds) ≡ operands_of f bs
+operands_in g f ds bs e h s = rw (e, h) (ap six (operands_more 0 (form.kinds f) (form.row f) (nibbles bs) _ (row_within f bs s)))

@@ -1,11 +1,10 @@
 -- Operands are taken, one by one.
-use Rattle.std.proofs.Common.{◌≡◌, ℕ, zero, suc, ◌<◌, ◌≤◌, Bool, true, false, cond, eqb, ltb, List, [], ◌∷◌, length, get_or, ℤ, pos, nat_abs, sym, refl, ap, ◌∙◌, arith}
-use mathlib.Core.Bool.{false≢true}
+use Rattle.std.specs.List.{list_all, enumerate_from}
+use Rattle.std.proofs.Common.{add-one, ◌+◌, ◌≡◌, ℕ, suc, ◌≤◌, Bool, true, false, cond, eqb, ltb, List, [], ◌∷◌, length, get_or, ℤ, nat_abs, refl, ap, arith}
 use Rattle.std.proofs.lemmas.Bool.Decides.{nat_tests}
 use Rattle.form.specs.declared.OperandKind.{OperandKind}
 use Rattle.form.specs.declared.OperandKind.TheVariants.{M}
 use Rattle.form.specs.Encode.{In, takes}
-use Rattle.form.proofs.Tests.{left, right, both}
 use Rattle.codec.specs.Digits.{taken_at}
 
 shift : (k : OperandKind) (ks : List OperandKind) (i : ℕ) (z : ℤ) → taken_at (k ∷ ks) (suc i) z ≡ taken_at ks i z
@@ -23,28 +22,21 @@ past i z = ap (λ (b : Bool). cond b (In M z) (eqb (nat_abs z) 0)) (none i) wher
   none : (a : ℕ) → ltb a 0 ≡ false
   none a = grind (arith, nat_tests)
 
-pub taken_each : (ks : List OperandKind) (zs : List ℤ) → takes ks zs ≡ true → (i : ℕ) → i < length zs → taken_at ks i (get_or zs i (pos 0)) ≡ true
-taken_each ks [] e i h = absurd (omega arith)
-taken_each [] (z ∷ zs) e zero h = left (eqb (nat_abs z) 0) (takes [] zs) e
-taken_each [] (z ∷ zs) e (suc i) h =
-    past (suc i) (get_or zs i (pos 0)) ∙ sym (past i (get_or zs i (pos 0))) ∙ taken_each [] zs (right (eqb (nat_abs z) 0) (takes [] zs) e) i (omega arith)
-taken_each (k ∷ ks) (z ∷ zs) e zero h = first k ks z ∙ left (In k z) (takes ks zs) e
-taken_each (k ∷ ks) (z ∷ zs) e (suc i) h =
-    shift k ks i (get_or zs i (pos 0)) ∙ taken_each ks zs (right (In k z) (takes ks zs) e) i (omega arith)
+-- the same test one place on
+moved : (k : OperandKind) (ks : List OperandKind) (i : ℕ) (zs : List ℤ)
+    → list_all (λ p. taken_at (k ∷ ks) p.0 p.1) (enumerate_from (i + 1) zs) ≡ list_all (λ p. taken_at ks p.0 p.1) (enumerate_from i zs)
+moved k ks i [] = refl
+moved k ks i (z ∷ zs) =
+    let a : taken_at (k ∷ ks) (i + 1) z ≡ taken_at ks i z = rw add-one (shift k ks i z) in
+    rw (a, moved k ks (i + 1) zs) refl
 
-pub taken_all : (ks : List OperandKind) (zs : List ℤ) → length ks ≤ length zs → ((i : ℕ) → i < length zs → taken_at ks i (get_or zs i (pos 0)) ≡ true) → takes ks zs ≡ true
-taken_all [] [] n e = refl
-taken_all (k ∷ ks) [] n e = absurd (omega arith)
-taken_all [] (z ∷ zs) n e = both (eqb (nat_abs z) 0) (takes [] zs) (e 0 (omega arith)) (taken_all [] zs (omega arith) (λ i h. past i (get_or zs i (pos 0)) ∙ sym (past (suc i) (get_or zs i (pos 0))) ∙ e (suc i) (omega arith)))
-taken_all (k ∷ ks) (z ∷ zs) n e = both (In k z) (takes ks zs) (sym (first k ks z) ∙ e 0 (omega arith)) (taken_all ks zs (omega arith) (λ i h. sym (shift k ks i (get_or zs i (pos 0))) ∙ e (suc i) (omega arith)))
+none : (i j : ℕ) (zs : List ℤ) → list_all (λ p. taken_at [] p.0 p.1) (enumerate_from i zs) ≡ list_all (λ p. taken_at [] p.0 p.1) (enumerate_from j zs)
+none i j [] = refl
+none i j (z ∷ zs) = rw (past i z, past j z, none (i + 1) (j + 1) zs) refl
 
-differ : (b : Bool) → b ≡ true → b ≡ false → ⊥
-differ true e h = false≢true (sym h)
-differ false e h = false≢true e
-
--- one operand that is not taken refuses them all
-pub taken_not : (ks : List OperandKind) (zs : List ℤ) (i : ℕ) → i < length zs → taken_at ks i (get_or zs i (pos 0)) ≡ false → false ≡ takes ks zs
-taken_not ks zs i h e = by (takes ks zs) (λ t. differ (taken_at ks i (get_or zs i (pos 0))) (taken_each ks zs t i h) e) where
-  by : (b : Bool) → (b ≡ true → ⊥) → false ≡ b
-  by true n = absurd (n refl)
-  by false n = refl
+-- the operands are taken where each of them is, by its number
+pub taken_is : (ks : List OperandKind) (zs : List ℤ) → length ks ≤ length zs → list_all (λ p. taken_at ks p.0 p.1) (enumerate_from 0 zs) ≡ takes ks zs
+taken_is [] [] n = refl
+taken_is (k ∷ ks) [] n = absurd (omega arith)
+taken_is [] (z ∷ zs) n = rw (past 0 z, none 1 0 zs, taken_is [] zs (omega arith)) refl
+taken_is (k ∷ ks) (z ∷ zs) n = rw (first k ks z, moved k ks 0 zs, taken_is ks zs (omega arith)) refl

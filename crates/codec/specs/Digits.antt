@@ -1,5 +1,5 @@
 -- The code's rows and what it makes of them, in the words of the forms.
-use Rattle.std.specs.Prelude.{ℕ, suc, ◌-◌, ◌*◌, Bool, true, cond, List, length, ℤ, pos, negsuc, ◌==◌, nat_lt, slice_index_or, unsigned_abs}
+use Rattle.std.specs.Prelude.{◌++◌, replicate, ℕ, suc, ◌-◌, ◌*◌, Bool, true, cond, List, length, ℤ, pos, negsuc, ◌==◌, nat_lt, slice_index_or, unsigned_abs}
 use Rattle.refusal.specs.Numbers.{from_bits}
 use Rattle.form.specs.declared.OperandKind.{OperandKind}
 use Rattle.form.specs.declared.OperandKind.TheVariants.{M}
@@ -35,3 +35,7 @@ operand_at ks ds xs i = cond (nat_lt i (length ks)) (from_bits (width (slice_ind
 -- whether operand i may be z
 abbrev pub taken_at : List OperandKind → ℕ → ℤ → Bool
 taken_at ks i z = cond (nat_lt i (length ks)) (In (slice_index_or ks i M) z) (unsigned_abs z == 0)
+
+-- these digits, and zeros up to twelve
+abbrev pub twelve : List ℕ → List ℕ
+twelve xs = xs ++ replicate (12 - length xs) 0

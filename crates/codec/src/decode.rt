@@ -1,63 +1,50 @@
 ghost use Rattle.std.specs.Prelude.{◌≡◌, ℕ, ◌+◌, ◌*◌, ◌^◌, ◌<◌, ◌≤◌, true, ◌&&◌, ◌||◌, map, length, pos, neg_ℤ, ◌≤ℤ◌, if◌then◌else◌, Some, None, ◌==◌, nat_eq, slice_index, slice_index_or};
 ghost use Rattle.form.specs.Form.{row as row_of, unused, size as size_of, kinds as kinds_of};
-ghost use Rattle.form.specs.Encode.{nibbles, operand_part, gather, bit_part, bit_of, field_of as field_at, width, operands_of as operands_at, is_vec, rxb_clean, digit_clean, clean, all_clean, opcode_of as opcode_at};
+ghost use Rattle.form.specs.Encode.{nibbles, operand_part, gather, bit_part, bit_of, field_of as field_at, width, operands_of as operands_at, operands_from, six, is_vec, rxb_clean, digit_clean, clean, all_clean, opcode_of as opcode_at};
 ghost use Rattle.refusal.specs.Numbers.{from_bits};
-ghost use Rattle.codec.specs.Digits.{digit_of, low, operand_at, twos_by};
+ghost use Rattle.codec.specs.Digits.{digit_of, low, operand_at, twos_by, twelve};
 ghost use Rattle.refusal.specs.Tests.{all};
 
 use crate::row::{Digit, row};
 use form::table::OpcodeDigits;
 use form::{Form, OperandKind};
+use std::array;
 
-/// Digit i of the bytes.
+/// Digit i of the bytes, 0 past the end.
 fn nibble(bytes: &[u8], i: usize) -> u8
-    requires { i < 2 * length bytes.now }
-    ensures is { result ≡ slice_index (nibbles bytes.now) i }
-    ensures small { result < 16 }
+    ensures { result ≡ slice_index (nibbles bytes.now) i }
 {
-    let byte = bytes[i / 2];
+    let byte = bytes.get(i / 2).copied().unwrap_or(0);
     if i % 2 == 0 { byte / 16 } else { byte % 16 }
 }
 
+/// The digits of the bytes, zeros past the end.
+fn digits_of(bytes: &[u8]) -> [u8; 12]
+    requires { length bytes.now ≤ 6 }
+    ensures { result ≡ twelve (nibbles bytes.now) }
+{
+    array::from_fn(|i| nibble(bytes, i))
+}
+
 fn scaled(x: u8, k: usize) -> u64
-    requires { (x < 16) × (k < 8) }
+    requires { k < 8 }
     ensures is { result ≡ x * 16 ^ k }
-    ensures small { result < 2 ^ 32 }
+    ensures small { result < 2 ^ 36 }
 {
     x as u64 * 16u64.pow(k as u32)
 }
 
 /// What a digit of the row says about operand i.
 fn weigh(i: usize, d: Digit, x: u8) -> u64
-    requires { (x < 16) × (low d ≡ true) }
+    requires { low d ≡ true }
     ensures is { result ≡ operand_part i (digit_of d) x }
-    ensures small { result < 2 ^ 32 }
+    ensures small { result < 2 ^ 36 }
 {
     match d {
         Digit::Arg(j, k) => if i == j { scaled(x, k) } else { 0 },
         Digit::Vector(j) => if i == j { x as u64 } else { 0 },
         Digit::Op(_) | Digit::Unused | Digit::Rxb => 0,
     }
-}
-
-/// The sum of operand i's digits.
-fn operand_sum(i: usize, row: &[Digit], bytes: &[u8]) -> u64
-    requires { (length row.now ≡ 2 * length bytes.now) × ((length row.now ≤ 12) × (all low row.now ≡ true)) }
-    ensures is { result ≡ gather (operand_part i) (map digit_of row.now) (nibbles bytes.now) }
-    ensures small { result ≤ 12 * 2 ^ 32 }
-{
-    let mut total: u64 = 0;
-    for k in 0..row.len() {
-        total += weigh(i, row[k], nibble(bytes, k));
-    }
-    total
-}
-
-/// The digit at a place, unused past the end.
-fn digit_at(row: &[Digit], place: usize) -> Digit
-    ensures { digit_of result ≡ slice_index_or (map digit_of row.now) place unused }
-{
-    row.get(place).copied().unwrap_or(Digit::Unused)
 }
 
 /// A bit of RXB, where the digit is the low one of the vector register i.
@@ -70,35 +57,6 @@ fn bit_of(i: usize, d: Digit, bit: u8) -> u8
         Digit::Vector(j) => if i == j { bit } else { 0 },
         Digit::Op(_) | Digit::Arg(_, _) | Digit::Unused | Digit::Rxb => 0,
     }
-}
-
-/// Digit 9, which is RXB wherever a row has one.
-fn ninth(bytes: &[u8]) -> u8
-    ensures is { result ≡ slice_index (nibbles bytes.now) 9 }
-    ensures small { result < 16 }
-{
-    bytes.get(4).copied().unwrap_or(0) % 16
-}
-
-fn bits(i: usize, row: &[Digit], x: u8) -> u8
-    requires { x < 16 }
-    ensures is { result ≡ bit_of i (map digit_of row.now) x }
-    ensures small { result < 8 }
-{
-    let a = bit_of(i, digit_at(row, 2), x / 8 % 2);
-    let b = bit_of(i, digit_at(row, 3), x / 4 % 2);
-    let c = bit_of(i, digit_at(row, 4), x / 2 % 2);
-    let d = bit_of(i, digit_at(row, 8), x % 2);
-    a + b + c + d
-}
-
-/// Operand i's field.
-fn field_of(i: usize, row: &[Digit], bytes: &[u8]) -> u64
-    requires { (length row.now ≡ 2 * length bytes.now) × ((length row.now ≤ 12) × (all low row.now ≡ true)) }
-    ensures is { result ≡ field_at i (map digit_of row.now) (nibbles bytes.now) }
-    ensures small { result < 2 ^ 40 }
-{
-    operand_sum(i, row, bytes) + 16 * bits(i, row, ninth(bytes)) as u64
 }
 
 /// The number that a field of this kind spells.
@@ -161,33 +119,6 @@ fn opcode_of(form: Form, bytes: &[u8]) -> u16
     }
 }
 
-/// Operand i, 0 where the form has none.
-fn operand(form: Form, bytes: &[u8], i: usize) -> i64
-    requires { length bytes.now ≡ size_of form }
-    ensures { result ≡ operand_at (kinds_of form) (row_of form) (nibbles bytes.now) i }
-{
-    let kinds = form.kinds();
-    if i < kinds.len() {
-        number(kinds[i], field_of(i, row(form), bytes))
-    } else {
-        0
-    }
-}
-
-/// The six operands, the unused ones 0.
-fn operands_of(form: Form, bytes: &[u8]) -> [i64; 6]
-    requires { length bytes.now ≡ size_of form }
-    ensures { result ≡ operands_at form bytes.now }
-{
-    let a = operand(form, bytes, 0);
-    let b = operand(form, bytes, 1);
-    let c = operand(form, bytes, 2);
-    let d = operand(form, bytes, 3);
-    let e = operand(form, bytes, 4);
-    let f = operand(form, bytes, 5);
-    [a, b, c, d, e, f]
-}
-
 /// Whether a bit of RXB is a vector register's or not set.
 fn bit_clean(d: Digit, bit: u8) -> bool
     ensures { result ≡ (is_vec (digit_of d) || bit == 0) }
@@ -195,47 +126,123 @@ fn bit_clean(d: Digit, bit: u8) -> bool
     is_vector(d) || bit == 0
 }
 
-/// Whether no bit of RXB is set but those of vector registers.
-fn rxb_is_clean(row: &[Digit], x: u8) -> bool
-    requires { x < 16 }
-    ensures { result ≡ rxb_clean (map digit_of row.now) x }
-{
-    let a = bit_clean(digit_at(row, 2), x / 8 % 2);
-    let b = bit_clean(digit_at(row, 3), x / 4 % 2);
-    let c = bit_clean(digit_at(row, 4), x / 2 % 2);
-    let d = bit_clean(digit_at(row, 8), x % 2);
-    a && b && c && d
+/// An instruction's digits beside the row of its form.
+#[derive(Drop)]
+struct Laid {
+    form: Form,
+    row: &'static [Digit],
+    digits: [u8; 12],
+    ghost is: { map digit_of row.now ≡ row_of form },
+    ghost low: { all low row.now ≡ true },
 }
 
-fn digit_is_clean(row: &[Digit], d: Digit, x: u8) -> bool
-    requires { x < 16 }
-    ensures { result ≡ digit_clean (map digit_of row.now) (digit_of d) x }
-{
-    match d {
-        Digit::Op(_) | Digit::Arg(_, _) | Digit::Vector(_) => true,
-        Digit::Unused => x == 0,
-        Digit::Rxb => rxb_is_clean(row, x),
-    }
-}
-
-fn row_is_clean(row: &[Digit], bytes: &[u8]) -> bool
-    requires { length row.now ≡ 2 * length bytes.now }
-    ensures { result ≡ all_clean (map digit_of row.now) (map digit_of row.now) (nibbles bytes.now) }
-{
-    for k in 0..row.len() {
-        if !digit_is_clean(row, row[k], nibble(bytes, k)) {
-            return false;
+impl Laid {
+    fn new(form: Form, bytes: &[u8]) -> Laid
+        requires { length bytes.now ≤ 6 }
+        ensures form { result.form ≡ form }
+        ensures digits { result.digits ≡ twelve (nibbles bytes.now) }
+    {
+        Laid {
+            form,
+            row: row(form),
+            digits: digits_of(bytes),
         }
     }
-    true
-}
 
-/// Whether no unused digit is set.
-fn is_clean(form: Form, bytes: &[u8]) -> bool
-    requires { length bytes.now ≡ size_of form }
-    ensures { result ≡ clean form bytes.now }
-{
-    row_is_clean(row(form), bytes)
+    /// The row's digit at a place, unused past the end.
+    fn digit_at(&self, place: usize) -> Digit
+        ensures { digit_of result ≡ slice_index_or (row_of self.now.form) place unused }
+    {
+        self.row.get(place).copied().unwrap_or(Digit::Unused)
+    }
+
+    /// The sum of operand i's digits.
+    fn operand_sum(&self, i: usize) -> u64
+        ensures is { result ≡ gather (operand_part i) (row_of self.now.form) self.now.digits }
+        ensures small { result ≤ 12 * 2 ^ 36 }
+    {
+        let mut total: u64 = 0;
+        for (d, x) in self.row.iter().zip(&self.digits) {
+            total += weigh(i, *d, *x);
+        }
+        total
+    }
+
+    /// Operand i's bit in RXB, which is digit 9 wherever a row has one.
+    fn bit(&self, i: usize) -> u8
+        ensures is { result ≡ bit_of i (row_of self.now.form) (slice_index self.now.digits 9) }
+        ensures small { result < 8 }
+    {
+        let x = self.digits[9];
+        let a = bit_of(i, self.digit_at(2), x / 8 % 2);
+        let b = bit_of(i, self.digit_at(3), x / 4 % 2);
+        let c = bit_of(i, self.digit_at(4), x / 2 % 2);
+        let d = bit_of(i, self.digit_at(8), x % 2);
+        a + b + c + d
+    }
+
+    /// Operand i's field.
+    fn field(&self, i: usize) -> u64
+        ensures is { result ≡ field_at i (row_of self.now.form) self.now.digits }
+        ensures small { result < 2 ^ 40 }
+    {
+        self.operand_sum(i) + 16 * self.bit(i) as u64
+    }
+
+    /// Operand i, 0 where the form has none.
+    fn operand(&self, i: usize) -> i64
+        ensures { result ≡ operand_at (kinds_of self.now.form) (row_of self.now.form) self.now.digits i }
+    {
+        self.form
+            .kinds()
+            .get(i)
+            .map_or(0, |kind| number(*kind, self.field(i)))
+    }
+
+    /// The six operands, the unused ones 0.
+    fn operands(&self) -> [i64; 6]
+        ensures { result ≡ six (operands_from 0 (kinds_of self.now.form) (row_of self.now.form) self.now.digits) }
+    {
+        [
+            self.operand(0),
+            self.operand(1),
+            self.operand(2),
+            self.operand(3),
+            self.operand(4),
+            self.operand(5),
+        ]
+    }
+
+    /// Whether no bit of RXB, which is x, is set but those of vector registers.
+    fn rxb_is_clean(&self, x: u8) -> bool
+        ensures { result ≡ rxb_clean (row_of self.now.form) x }
+    {
+        let a = bit_clean(self.digit_at(2), x / 8 % 2);
+        let b = bit_clean(self.digit_at(3), x / 4 % 2);
+        let c = bit_clean(self.digit_at(4), x / 2 % 2);
+        let d = bit_clean(self.digit_at(8), x % 2);
+        a && b && c && d
+    }
+
+    fn digit_is_clean(&self, d: Digit, x: u8) -> bool
+        ensures { result ≡ digit_clean (row_of self.now.form) (digit_of d) x }
+    {
+        match d {
+            Digit::Op(_) | Digit::Arg(_, _) | Digit::Vector(_) => true,
+            Digit::Unused => x == 0,
+            Digit::Rxb => self.rxb_is_clean(x),
+        }
+    }
+
+    /// Whether no unused digit is set.
+    fn is_clean(&self) -> bool
+        ensures { result ≡ all_clean (row_of self.now.form) (row_of self.now.form) self.now.digits }
+    {
+        self.row
+            .iter()
+            .zip(&self.digits)
+            .all(|(d, x)| self.digit_is_clean(*d, *x))
+    }
 }
 
 /// The opcode in these bytes, if they are as many as the form has.
@@ -257,8 +264,9 @@ pub fn decode(form: Form, bytes: &[u8]) -> Option<[i64; 6]>
     if bytes.len() != form.size() {
         return None;
     }
-    if !is_clean(form, bytes) {
+    let laid = Laid::new(form, bytes);
+    if !laid.is_clean() {
         return None;
     }
-    Some(operands_of(form, bytes))
+    Some(laid.operands())
 }

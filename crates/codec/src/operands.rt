@@ -27,20 +27,15 @@ fn is_in(kind: OperandKind, z: i64) -> bool
 fn is_taken(form: Form, i: usize, z: i64) -> bool
     ensures { result ≡ taken_at (kinds_of form) i z }
 {
-    match form.kinds().get(i) {
-        Some(kind) => is_in(*kind, z),
-        None => z == 0,
-    }
+    form.kinds().get(i).map_or(z == 0, |kind| is_in(*kind, z))
 }
 
 /// Whether the operands are of the form's kinds, the unused ones 0.
 pub fn takes(form: Form, operands: &[i64; 6]) -> bool
     ensures { result ≡ takes_them (kinds_of form) operands.now }
 {
-    for i in 0..6 {
-        if !is_taken(form, i, operands[i]) {
-            return false;
-        }
-    }
-    true
+    operands
+        .iter()
+        .enumerate()
+        .all(|(i, z)| is_taken(form, i, *z))
 }

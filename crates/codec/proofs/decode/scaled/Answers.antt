@@ -1,7 +1,7 @@
 use Rattle.std.proofs.Common.{ℕ, zero, suc, ◌*◌, ◌^◌, ◌<◌, arith}
 use Rattle.codec.proofs.decode.scaled.Goals as goal
 
-small : (x k : ℕ) → x < 16 → k < 8 → x * 16 ^ k < 2 ^ 32
+small : (x k : ℕ) → x < 256 → k < 8 → x * 16 ^ k < 2 ^ 36
 small x zero h l = omega arith
 small x (suc zero) h l = omega arith
 small x (suc (suc zero)) h l = omega arith

@@ -1,20 +1,14 @@
-use Rattle.std.proofs.Common.{◌≡◌, get_or, pos, sym, ap, ◌∙◌, arith, w64, to_z, of_z, rules, below_more}
-use Rattle.form.specs.Form.{kinds}
+use Rattle.std.proofs.Common.{◌∙◌, rules}
+use Rattle.std.proofs.lemmas.Iterator.{YieldsList-from_slice}
+use Rattle.std.proofs.lemmas.Iterator.Consumers.{YieldsList-from_enumerate}
+use Rattle.std.proofs.lemmas.Iterator.Search.{all_from_yields_List}
+use Rattle.form.specs.Form.{kinds as kinds_of}
 use Rattle.codec.specs.Digits.{taken_at}
 use Rattle.codec.proofs.Sums.{few_kinds}
-use Rattle.codec.proofs.Taking.{taken_all, taken_not}
+use Rattle.codec.proofs.Taking.{taken_is}
 use Rattle.codec.proofs.operands.takes.Goals as goal
 
-pub returns-then-not-is_taken : goal.returns-then-not-is_taken
-returns-then-not-is_taken c =
-    let f : to_z w64 (of_z w64 (get_or c.args.operands.now c.loop-i.i (pos 0))) ≡ get_or c.args.operands.now c.loop-i.i (pos 0) = search rules in
-    taken_not (kinds c.args.form) c.args.operands.now c.loop-i.i (omega arith)
-    (ap (taken_at (kinds c.args.form) c.loop-i.i) (sym f) ∙ sym c.is_taken.ensures ∙ c.if-not-is_taken.true)
-
-pub loop-i-preserved : goal.loop-i-preserved
-loop-i-preserved c =
-    let f : to_z w64 (of_z w64 (get_or c.args.operands.now c.loop-i.i (pos 0))) ≡ get_or c.args.operands.now c.loop-i.i (pos 0) = search rules in
-    below_more _ _ c.loop-i.invariant (ap (taken_at (kinds c.args.form) c.loop-i.i) (sym f) ∙ sym c.is_taken.ensures ∙ c.if-not-is_taken.false)
-
 pub returns : goal.returns
-returns c = sym (taken_all (kinds c.args.form) c.args.operands.now (let k = few_kinds c.args.form in omega arith) (λ i h. c.loop-i.invariant i (omega arith)))
+returns c =
+    all_from_yields_List (λ p. taken_at (kinds_of c.args.form) p.0 p.1) _ _ c.all.result c.all.ensures.ran (YieldsList-from_enumerate (YieldsList-from_slice c.args.operands.now cc) (cc)) (λ x b q k. search rules)
+    ∙ taken_is (kinds_of c.args.form) c.args.operands.now (rw c.told-operands (few_kinds c.args.form))
