@@ -30,7 +30,7 @@ fn data_fits(access: &Access, relative: bool) -> bool
         Access::Mem { rd, .. } if relative => is_gpr(rd),
         Access::Mem { rd, .. } => is_gpr_or_fpr(rd),
         Access::MemRs { rd, rn, .. } => is_gpr_or_fpr(rd) && is_gpr_or_fpr(rn),
-        // each number of its type fits: reading it tells the proof its range
+        // two arms, since the proof learns a number's range only where its value is read
         Access::MemImm8 { imm: _imm, .. } => true,
         Access::MemImm16 { imm: _imm, .. } => true,
         Access::MemVrx { rd, m3, .. } => is_vr(rd) && m3 < 16,

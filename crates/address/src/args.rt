@@ -202,7 +202,7 @@ pub enum Helper {
     LoadAddr { rd: Reg, mem: MemArg },
 }
 
-/// At most two helpers, in order: no second one without a first.
+/// At most two helpers, in order: no second one without a first. A record of two, since no memory is asked for.
 #[derive(Clone, Copy, PartialEq, Eq, Debug)]
 pub struct Helpers {
     pub first: Option<Helper>,

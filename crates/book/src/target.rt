@@ -21,6 +21,7 @@ pub enum Target {
 #[derive(Clone, Copy, PartialEq, Eq, Debug)]
 pub struct Use {
     pub place: usize,
+    // a number, since a book holds uses of two families
     pub kind: u8,
     pub target: Target,
 }

@@ -95,6 +95,7 @@ fn emit(section: &mut Code, catalogue: &Catalogue, code: &mut [u8]) -> Result<()
     let label = promise.label();
     let branch = section.put_to_label(catalogue, code, BRC, 8, label);
     let loaded = section.access(catalogue, code, &LOAD);
+    // what an Err hands back cannot be let go, so neither ? nor expect serves
     match section.bind(code, promise) {
         Ok(()) => {}
         Err(_) => unreachable(),

@@ -4,6 +4,8 @@
 
 #![tactic(auto)]
 
+// A number beside the bytes, and no `Result`: the encoders' interface is fixed.
+
 ghost use Rattle.std.specs.Prelude.{◌≡◌, [], ◌∷◌, pos};
 ghost use Rattle.form.specs.declared.Form.TheVariants.{Rr, Rrd, Rre, RrfAb, RrfCde, Rs, Rsy, Rx, Rxy, Si, Sil, Siy};
 ghost use Rattle.form.specs.Encoders.{encoder, register, numeral};

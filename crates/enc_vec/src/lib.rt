@@ -4,6 +4,8 @@
 
 #![tactic(auto)]
 
+// A number beside the bytes, and no `Result`: the encoders' interface is fixed.
+
 ghost use Rattle.std.specs.Prelude.{◌≡◌, [], ◌∷◌, pos};
 ghost use Rattle.form.specs.declared.Form.TheVariants.{VriA, VriB, VriC, VriK, VrrA, VrrB, VrrC, VrrD, VrrE, VrrF, VrsA, VrsB, VrsC, Vrx};
 ghost use Rattle.form.specs.Encoders.{encoder, register, numeral};

@@ -11,6 +11,8 @@ use field::verdict::FieldRefusal;
 /// Branch fields: kind 1 is BranchRI, kind 2 BranchRIL.
 pub struct Labels;
 
+// The table stands here as it is read; what families share is written once in `field`, and a body that names its own constants is no shorter.
+
 impl FieldRead for Labels {
     ghost fields = { label_family.fields };
 

@@ -11,6 +11,8 @@ use field::verdict::FieldRefusal;
 /// Relocation fields: kind 1 is R_390_PC16DBL, kind 2 R_390_PC32DBL.
 pub struct Relocations;
 
+// The table stands here as it is read; what families share is written once in `field`, and a body that names its own constants is no shorter.
+
 impl FieldRead for Relocations {
     ghost fields = { relocation_family.fields };
 

@@ -5,6 +5,8 @@ ghost use Rattle.field.specs.Family.{Fields, LawfulFields, Lawful, family, told,
 use crate::info::FieldInfo;
 use crate::verdict::FieldRefusal;
 
+// A kind is a number: each family has kinds of its own, and a book holds uses of two families of anyone's making.
+
 /// What a family of fields tells. The bytes that it is given are its own: `size` of them, from `lead` bytes into the instruction on.
 pub trait FieldRead {
     ghost fields: { Fields };

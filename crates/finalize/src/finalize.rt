@@ -62,6 +62,8 @@ fn sum_of(v: &Offset) -> Option<i64>
     v.off.checked_add(adj)
 }
 
+// Two variants, so two functions, which differ in a type.
+
 // A base, an index and a 12-bit displacement.
 fn bxd12(base: Reg, index: Reg, disp: UImm12, flags: MachMemFlags) -> MemArg
     ensures { result ≡ MemArg.BXD12 base index disp flags }
@@ -220,7 +222,7 @@ fn checked(mem: &MemArg, frame: &Frame, mi: MemInstType) -> Result<(Helpers, Mem
 }
 
 /// Memory addressing mode finalization: converts "special" modes, offsets of any size, into real addressing modes, and a mode that the
-/// instruction lacks into one that it has, by at most two helper instructions that come immediately before it.
+/// instruction lacks into one that it has, by at most two helper instructions that come immediately before it. Its parameters are the original's.
 pub fn mem_finalize(
     mem: &MemArg,
     frame: &Frame,

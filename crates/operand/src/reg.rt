@@ -16,6 +16,8 @@ pub struct Reg {
     pub number: u8,
 }
 
+// One line each: a function over classes and limits would be no plainer.
+
 /// The integer register of this number.
 pub fn gpr(number: u8) -> Reg
     ensures { result ≡ general number }

@@ -1,6 +1,6 @@
 use form::Form;
 
-/// Every form.
+/// Every form, so that a name is looked up by `name_of`: a match on names would write the 37 names twice.
 const FORMS: [Form; 37] = [
     Form::E,
     Form::RiA,

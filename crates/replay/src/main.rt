@@ -53,7 +53,7 @@ impl State {
     }
 }
 
-/// Hands a command to the group that its name belongs to.
+/// Hands a command to the group that its name belongs to: a command is text, so a match finds it.
 fn dispatch(state: &mut State, name: &str, args: &mut Args) -> Answered {
     let (group, call) = name.split_once('_').unwrap_or((name, ""));
     match group {

@@ -24,7 +24,7 @@ pub struct Places<'a> {
     pub symbols: &'a [i64],
 }
 
-/// The distance from an instruction to a symbol's place and an offset.
+/// The distance from an instruction to a symbol's place and an offset. In place of its call the sum is not proved.
 fn apart(from: usize, place: i64, offset: i32) -> i128
     ensures { result ≡ (place +ℤ offset) -ℤ pos from }
 {
@@ -62,6 +62,8 @@ fn window<F: FieldRead>(field: &Use, len: usize) -> (usize, usize)
     (from, past)
 }
 
+// A use goes with what was computed for it, step by step: a struct for each step would be no plainer.
+
 /// The distance that a use gets, or why it gets none.
 fn plan<F: FieldRead>(field: &Use, wanted: Option<i128>, len: usize) -> Result<i64, Refusal>
     ensures { result ≡ planned F.FieldRead.fields field.now len wanted }
@@ -79,6 +81,7 @@ fn plan_use<L: FieldPatch, S: FieldPatch>(
 ) -> Result<i64, Refusal>
     ensures { result ≡ planned (family_for (family L.FieldRead.fields L.FieldPatch.patched) (family S.FieldRead.fields S.FieldPatch.patched) field.now.target).fields field.now len wanted }
 {
+    // families are types, which a match chooses and no closure can hold
     match field.target {
         Target::Label(_) => plan::<L>(field, wanted, len),
         Target::Symbol(_, _) => plan::<S>(field, wanted, len),

@@ -21,6 +21,7 @@ fn find_entry(entries: &[Entry], bytes: &[u8]) -> Option<Entry>
 fn size_read(answer: &Result<Option<Placed>, Refusal>) -> usize
     ensures { result ≡ taken answer.now }
 {
+    // one match is plainer than steps through both layers of the answer
     match answer {
         Ok(Some(read)) => read.instr.form.size(),
         Ok(None) | Err(_) => 0,

@@ -55,6 +55,8 @@ impl<L, S> Section<L, S> {
         Ok(())
     }
 
+    // That the buffer has the section's length is a fact of two values that meet at a call, so each function asks it.
+
     /// Writes an instruction's bytes at the end, and records the use of what it is aimed at.
     pub(crate) fn extend(&mut self, code: &mut [u8], encoded: &Encoded, aim: Option<Target>)
         requires ours { length code.old ≡ self.old.room }

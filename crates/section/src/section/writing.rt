@@ -31,6 +31,8 @@ fn lone(entry: Entry, first: i64) -> Instr
 }
 
 impl<L, S> Section<L, S> {
+    // Catalogue and buffer are the caller's, and lent anew at each call.
+
     /// Writes a catalogued instruction at the end. Refused by BUFFER, MISFIT, OPCODE, OPERAND and ROOM.
     pub fn put(
         &mut self,
