@@ -4,12 +4,13 @@ use Rattle.std.proofs.Common.{sym, subst, arith}
 use Rattle.field.specs.Family.{FieldInfo, FitsWord, Lawful, serves, two_kinds, label_table, relocation_table, label_family, relocation_family}
 use Rattle.field.proofs.Laws.{never_none, same_some, overwriting}
 
-two_fit : (short long : FieldInfo) → FitsWord 2 short → FitsWord 2 long → (k : ℕ) (i : FieldInfo) → two_kinds short long k ≡ Some i → FitsWord 2 i
-two_fit short long f g k i e = go (k == 1) (k == 2) e
+-- what is so of each of two kinds is so of a table of the two
+two_fit : (P : FieldInfo → Type 0) (short long : FieldInfo) → P short → P long → (k : ℕ) (i : FieldInfo) → two_kinds short long k ≡ Some i → P i
+two_fit P short long f g k i e = go (k == 1) (k == 2) e
   where
-    go : (b c : Bool) → cond b (Some short) (cond c (Some long) None) ≡ Some i → FitsWord 2 i
-    go true c e = subst (FitsWord 2) (same_some e) f
-    go false true e = subst (FitsWord 2) (same_some e) g
+    go : (b c : Bool) → cond b (Some short) (cond c (Some long) None) ≡ Some i → P i
+    go true c e = subst P (same_some e) f
+    go false true e = subst P (same_some e) g
     go false false e = never_none i (sym e)
 
 abbrev pub label_short : FieldInfo
@@ -25,13 +26,13 @@ abbrev pub relocation_long : FieldInfo
 relocation_long = record { lead = 2; size = 4; first = 0; past = 4; least = neg_ℤ (pos 4294967296); greatest = pos 4294967294 }
 
 pub label_fits : (k : ℕ) (i : FieldInfo) → label_table k ≡ Some i → FitsWord 2 i
-label_fits = two_fit label_short label_long (omega arith) (omega arith)
+label_fits = two_fit (FitsWord 2) label_short label_long (omega arith) (omega arith)
 
 pub label_lawful : Lawful label_family
 label_lawful = overwriting 2 label_table (omega arith) (λ k i e. (label_fits k i e).fits)
 
 pub relocation_fits : (k : ℕ) (i : FieldInfo) → relocation_table k ≡ Some i → FitsWord 2 i
-relocation_fits = two_fit relocation_short relocation_long (omega arith) (omega arith)
+relocation_fits = two_fit (FitsWord 2) relocation_short relocation_long (omega arith) (omega arith)
 
 pub relocation_lawful : Lawful relocation_family
 relocation_lawful = overwriting 2 relocation_table (omega arith) (λ k i e. (relocation_fits k i e).fits)

@@ -8,7 +8,7 @@ use Rattle.refusal.specs.Refusals.{answered, unless}
 use Rattle.refusal.specs.Numbers.{signed, wrap, big_endian, bytes_of_number}
 use Rattle.field.specs.declared.verdict.FieldRefusal.{FieldRefusal}
 use Rattle.field.specs.declared.verdict.FieldRefusal.TheVariants.{Kind, Far, Odd}
-use Rattle.field.specs.Family.{◌when◌, first_refused, FieldInfo, family, field_bytes, field_value, held_by, multiple, told, refuses_by, Fits, Patches, Lawful, overwritten}
+use Rattle.field.specs.Family.{◌when◌, first_refused, FieldInfo, family, field_bytes, field_value, held_by, multiple, told, refuses_by, Fits, Patches, Lawful, overwritten, refuses, held}
 use Rattle.field.proofs.Numbers.{number_length, held_back}
 
 pub never_none : {X P : Type 0} (x : X) → ◌≡◌ {A = Option X} (Some x) None → P
@@ -132,6 +132,15 @@ overwriting a table one fits =
           subst (λ (o : Option FieldInfo). Patches a i d bytes (overwritten a o bytes d)) (sym e)
           (overwrites a i d bytes one (fits k i e) bs (accepted a i (length bytes) d (subst (λ (o : Option FieldInfo). refuses_by a o (length bytes) d ≡ None) e ok)));
     }
+
+-- It reads back what it has written.
+pub overwriting_held : (a : ℕ) (table : ℕ → Option FieldInfo) (k : ℕ) (i : FieldInfo) (bytes : List ℕ) (d : ℤ) → 1 ≤ a → table k ≡ Some i → Fits a i → refuses (record { align = a; table = table }) k (length bytes) d ≡ None
+    → (new : List ℕ) → new ≡ overwritten a (table k) bytes d → held (record { align = a; table = table }) k new ≡ Ok d
+overwriting_held a table k i bytes d one t fit none new e =
+    let r : refuses_by a (Some i) (length bytes) d ≡ None = subst (λ (o : Option FieldInfo). refuses_by a o (length bytes) d ≡ None) t none in
+    ap (held (record { align = a; table = table }) k) e
+    ∙ ap (λ (o : Option FieldInfo). held_by a o (overwritten a o bytes d)) t
+    ∙ overwritten_held a i d bytes one fit (accepted a i (length bytes) d r)
 
 -- A patch that is refused.
 
