@@ -63,7 +63,7 @@ impl<'a> Args<'a> {
     }
 
     /// What a call answers to the arguments that the next words are.
-    pub fn answer<T: Argument, R: Answer, F: FnOnce(T) -> R>(&mut self, call: F) -> Answered
+    pub(crate) fn answer<T: Argument, R: Answer, F: FnOnce(T) -> R>(&mut self, call: F) -> Answered
         requires { F.IsAlwaysCallable call }
     {
         let answer = call(self.read()?);
