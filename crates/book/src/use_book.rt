@@ -1,51 +1,16 @@
-ghost use Rattle.std.specs.Prelude.{◌≡◌, ◌≤◌, List, [], ◌∷◌, ◌++◌, length, MatchResult};
-ghost use Rattle.refusal.specs.Refusals.{first_refusal, answered, unless};
-ghost use Rattle.book.specs.Books.{no_more_uses, record_checks};
-ghost use Rattle.book.specs.Listed.{uses_in};
+ghost use Rattle.std.specs.Prelude.{◌≤◌, length};
+
+pub mod calls;
 
 use crate::target::Use;
 use bounded::Bounded;
-use refusal::Reason;
-use std::alloc::Global;
 
 /// How many uses a book has room for.
 pub const MOST_USES: usize = 1024;
 
-/// The fields to fill, in the order recorded. The memory is taken when the book is made.
+/// The fields to fill, in the order recorded; at most 1,024. The memory is taken when the book is made.
 #[derive(Drop)]
 pub struct UseBook {
     uses: Bounded<Use, MOST_USES>,
-}
-
-impl UseBook {
-    /// An empty book, or MEMORY.
-    pub fn new(heap: Global) -> Result<UseBook, Reason>
-        ensures { MatchResult result (λ b. uses_in b ≡ []) (λ e. e ≡ Reason.Memory) }
-    {
-        let uses = Bounded::new(heap)?;
-        Ok(UseBook { uses })
-    }
-
-    /// Whether no more uses can be recorded.
-    pub fn is_full(&self) -> bool
-        ensures full { result ≡ no_more_uses (uses_in self.now) }
-        ensures few { length (uses_in self.now) ≤ MOST_USES }
-    {
-        self.uses.is_full()
-    }
-
-    /// Records one more use.
-    pub fn record_use(&mut self, field: Use) -> Result<(), Reason>
-        ensures answers { result ≡ answered (first_refusal (record_checks (uses_in self.old))) tt }
-        ensures leaves { uses_in self.new ≡ unless (first_refusal (record_checks (uses_in self.old))) (uses_in self.old ++ field ∷ []) (uses_in self.old) }
-    {
-        self.uses.push(field)
-    }
-
-    /// The uses, in the order recorded.
-    pub fn as_slice(&self) -> &[Use]
-        ensures { result.now ≡ uses_in self.now }
-    {
-        self.uses.as_slice()
-    }
+    ghost few: { length uses ≤ 1024 },
 }

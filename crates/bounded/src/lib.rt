@@ -57,6 +57,7 @@ impl<T: Copy, const MOST: usize> Bounded<T, MOST> {
     pub fn push(&mut self, item: T) -> Result<(), Reason>
         ensures answers { result ≡ answered (full_refusal MOST self.old) tt }
         ensures leaves { self.new ≡ unless (full_refusal MOST self.old) (self.old ++ item ∷ []) self.old }
+        ensures few { length self.new ≤ MOST }
     {
         if self.is_full() {
             return Err(Reason::Full);
@@ -67,7 +68,8 @@ impl<T: Copy, const MOST: usize> Bounded<T, MOST> {
 
     /// Puts another item in the place of one; past the end nothing changes.
     pub fn set(&mut self, index: usize, item: T)
-        ensures { self.new ≡ slice_set self.old index item }
+        ensures sets { self.new ≡ slice_set self.old index item }
+        ensures few { length self.new ≤ MOST }
     {
         if index < self.items.len() {
             self.items[index] = item;
