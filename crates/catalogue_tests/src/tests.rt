@@ -88,6 +88,7 @@ fn writes(rt: HostRuntime) -> Result<(), Fail> {
         .ok_or("RX")?;
     assert!(rt; e.len() == 4);
     assert_eq!(rt; e.as_slice(), [0x58, 0x13, 0x21, 0x23].as_slice());
+    assert_eq!(rt; e.bytes(), [0x58, 0x13, 0x21, 0x23, 0, 0]);
     let far = c
         .write(0, &instr(Form::RilB, 0xc00, [1, -4294967296, 0, 0, 0, 0]))
         .ok()

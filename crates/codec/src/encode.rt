@@ -1,4 +1,4 @@
-ghost use Rattle.std.specs.Prelude.{◌≡◌, ◌≤◌, true, length};
+ghost use Rattle.std.specs.Prelude.{◌≡◌, ◌-◌, ◌≤◌, ◌++◌, true, length, replicate};
 ghost use Rattle.std.specs.Int.Signed.{shr_z};
 ghost use Rattle.refusal.specs.Numbers.{wrap};
 ghost use Rattle.refusal.specs.Refusals.{answered};
@@ -75,6 +75,13 @@ impl Encoded {
         ensures few { length self.now ≤ 6 }
     {
         &self.bytes[..self.len()]
+    }
+
+    /// The bytes, and zeros behind them up to six.
+    pub fn bytes(&self) -> [u8; 6]
+        ensures { result ≡ self.now ++ replicate (6 - length self.now) 0 }
+    {
+        self.bytes
     }
 }
 
