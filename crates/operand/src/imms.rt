@@ -20,7 +20,7 @@ pub struct SImm20 {
 }
 
 /// An immediate of one digit that is shifted left by whole digits.
-#[derive(Clone, Copy, PartialEq, Eq, Debug)]
+#[derive(Clone, Copy, PartialEq, Eq)]
 pub struct Shifted<T> {
     pub bits: T,
     /// The result is `bits` shifted left by so many digits.

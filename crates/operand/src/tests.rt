@@ -30,5 +30,11 @@ fn shifts(rt: HostRuntime) -> Result<(), Fail> {
 fn texts(rt: HostRuntime) -> Result<(), Fail> {
     let least = SImm20::maybe_from_i64(-524288).ok_or(())?;
     assert!(rt; least.to_string(rt.alloc())?.as_str() == "-524288");
+    let short = UImm16Shifted::maybe_from_u64(1).ok_or(())?;
+    let text = format!(in rt.alloc(); "{short:?}")?;
+    assert!(rt; text.as_str() == "UImm16Shifted { bits: 1, shift: 0 }");
+    let long = UImm32Shifted::maybe_from_u64(1 << 32).ok_or(())?;
+    let text = format!(in rt.alloc(); "{long:?}")?;
+    assert!(rt; text.as_str() == "UImm32Shifted { bits: 1, shift: 1 }");
     Ok(())
 }

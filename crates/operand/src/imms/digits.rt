@@ -15,6 +15,9 @@ pub trait Digit: Copy {
 
     ghost number: { Self → ℕ };
 
+    /// The name that its immediate is printed under.
+    const NAME: &'static str = "Shifted";
+
     /// How many bits it has.
     fn bits() -> u8
         ensures { result ≡ width };
@@ -83,5 +86,15 @@ impl<T: Digit> fmt::Display for Shifted<T> {
     fn fmt<W: fmt::Write>(&self, f: &mut fmt::Formatter<W>) -> fmt::Result {
         let bits = self.bits.widened();
         write!(f, "{bits}")
+    }
+}
+
+/// Under the name of the original's type.
+impl<T: Digit + fmt::Debug> fmt::Debug for Shifted<T> {
+    fn fmt<W: fmt::Write>(&self, f: &mut fmt::Formatter<W>) -> fmt::Result {
+        f.debug_struct(T::NAME)
+            .field("bits", &self.bits)
+            .field("shift", &self.shift)
+            .finish()
     }
 }

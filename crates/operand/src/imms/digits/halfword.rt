@@ -11,6 +11,8 @@ impl Digit for u16 {
 
     ghost few = { Prim.search rules };
 
+    const NAME: &'static str = "UImm16Shifted";
+
     fn bits() -> u8 {
         16
     }

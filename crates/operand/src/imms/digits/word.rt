@@ -11,6 +11,8 @@ impl Digit for u32 {
 
     ghost few = { Prim.search rules };
 
+    const NAME: &'static str = "UImm32Shifted";
+
     fn bits() -> u8 {
         32
     }
