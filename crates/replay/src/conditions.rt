@@ -10,7 +10,7 @@ pub fn mask(name: &str, args: &mut Args) -> Answered {
         "cond_from_mask" => args.answer(|mask| Cond::from_mask(mask)),
         "cond_invert" => args.answer(|mask| Cond::from_mask(mask).map(|cond| cond.invert())),
         "cond_from_intcc" => args.answer(|cc| Cond::from_intcc(cc)),
-        _ => Err(Fault::UnknownCommand),
+        _ => Err(Fault::UnknownCommand.into()),
     }
 }
 
@@ -22,6 +22,6 @@ pub fn comparison(name: &str, args: &mut Args) -> Answered {
         "intcc_swap_args" => args.answer(|cc: IntCC| cc.swap_args()),
         "intcc_without_equal" => args.answer(|cc: IntCC| cc.without_equal()),
         "intcc_unsigned" => args.answer(|cc: IntCC| cc.unsigned()),
-        _ => Err(Fault::UnknownCommand),
+        _ => Err(Fault::UnknownCommand.into()),
     }
 }

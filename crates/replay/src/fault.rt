@@ -1,8 +1,7 @@
 use hex::FromHexError;
-use std::alloc::AllocError;
-use std::fmt;
+use std::{fmt, io};
 
-/// What is wrong with a line, or that there is no memory for its answer.
+/// What is wrong with a line.
 #[derive(Clone, Copy, PartialEq, Eq, Debug)]
 pub enum Fault {
     UnknownCommand,
@@ -19,21 +18,30 @@ pub enum Fault {
     UnknownAddress,
     UnknownForm,
     NotBytes,
-    OutOfMemory,
-}
-
-impl From<AllocError> for Fault {
-    fn from(_: AllocError) -> Fault {
-        Fault::OutOfMemory
-    }
 }
 
 impl From<FromHexError> for Fault {
-    fn from(error: FromHexError) -> Fault {
-        match error {
-            FromHexError::OutOfMemory => Fault::OutOfMemory,
-            _ => Fault::NotBytes,
-        }
+    fn from(_: FromHexError) -> Fault {
+        Fault::NotBytes
+    }
+}
+
+/// Why a command has no answer: its line is wrong, or the answer cannot be written.
+#[derive(Drop)]
+pub enum Stop {
+    Fault(Fault),
+    Output(io::Error),
+}
+
+impl From<Fault> for Stop {
+    fn from(fault: Fault) -> Stop {
+        Stop::Fault(fault)
+    }
+}
+
+impl From<io::Error> for Stop {
+    fn from(error: io::Error) -> Stop {
+        Stop::Output(error)
     }
 }
 
@@ -61,7 +69,6 @@ impl<'a> fmt::Display for Found<'a> {
             Fault::UnknownAddress => write!(f, "unknown address form {word}"),
             Fault::UnknownForm => write!(f, "unknown form {word}"),
             Fault::NotBytes => write!(f, "not bytes: {word}"),
-            Fault::OutOfMemory => f.write_str("out of memory"),
         }
     }
 }

@@ -12,7 +12,7 @@ pub fn displacement(name: &str, args: &mut Args) -> Answered {
         "uimm12_maybe_from_simm20" => args.answer(|value| UImm12::maybe_from_simm20(value)),
         "simm20_maybe_from_i64" => args.answer(|value| SImm20::maybe_from_i64(value)),
         "simm20_from_uimm12" => args.answer(|value| SImm20::from_uimm12(value)),
-        _ => Err(Fault::UnknownCommand),
+        _ => Err(Fault::UnknownCommand.into()),
     }
 }
 
@@ -24,6 +24,6 @@ pub fn shifted<T: Digit + Argument>(call: &str, args: &mut Args) -> Answered {
             Shifted::<T>::maybe_with_shift(imm, shift)
         }),
         "negate_bits" => args.answer(|imm: Shifted<T>| imm.negate_bits()),
-        _ => Err(Fault::UnknownCommand),
+        _ => Err(Fault::UnknownCommand.into()),
     }
 }

@@ -15,7 +15,7 @@
 
 use address::frame::Frame;
 use catalogue::catalogue::Catalogue;
-use fault::{Fault, Found};
+use fault::{Fault, Found, Stop};
 use refusal::Refusal;
 use std::alloc::Global;
 use std::io;
@@ -33,8 +33,8 @@ mod immediates;
 mod registers;
 mod words;
 
-/// A command's answer as text, or what is wrong with its line.
-type Answered = Result<String, Fault>;
+/// That a command's answer is written, or why it is not.
+type Answered = Result<(), Stop>;
 
 /// What stays from one line to the next.
 #[derive(Drop)]
@@ -66,27 +66,21 @@ fn dispatch(state: &mut State, name: &str, args: &mut Args) -> Answered {
         "intcc" => conditions::comparison(name, args),
         "state" | "mem" | "memarg" => addresses::answer(state, name, args),
         "admit" | "read" => entries::answer(&mut state.catalogue, name, args),
-        _ => Err(Fault::UnknownCommand),
+        _ => Err(Fault::UnknownCommand.into()),
     }
-}
-
-/// The answer to a command that has no words too many.
-fn answer_whole(state: &mut State, name: &str, args: &mut Args) -> Answered {
-    let answer = dispatch(state, name, args)?;
-    args.end()?;
-    Ok(answer)
 }
 
 /// Answers a line, if it has words.
 fn respond(rt: &HostRuntime, state: &mut State, line: &str) -> io::Result<()> {
     let (text, _) = line.split_once('#').unwrap_or((line, ""));
-    let mut args = Args::new(rt.alloc(), text);
+    let mut args = Args::new(rt, text);
     let Ok(name) = args.word() else {
         return Ok(());
     };
-    match answer_whole(state, name, &mut args) {
-        Ok(answer) => println!(rt; "{answer}"),
-        Err(fault) => {
+    match dispatch(state, name, &mut args) {
+        Ok(()) => Ok(()),
+        Err(Stop::Output(error)) => Err(error),
+        Err(Stop::Fault(fault)) => {
             let found = Found {
                 fault,
                 word: args.last(),

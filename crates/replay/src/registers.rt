@@ -18,6 +18,6 @@ pub fn answer(name: &str, args: &mut Args) -> Answered {
         "machreg_to_vr" => args.answer(|reg| number_of(reg, is_vr(reg))),
         "machreg_to_fpr" => args.answer(|reg| number_of(reg, is_fpr(reg))),
         "machreg_to_gpr_or_fpr" => args.answer(|reg| number_of(reg, is_gpr_or_fpr(reg))),
-        _ => Err(Fault::UnknownCommand),
+        _ => Err(Fault::UnknownCommand.into()),
     }
 }

@@ -1,7 +1,7 @@
 use crate::Answered;
 use crate::answer::{Answer, Shown};
 use crate::fault::Fault;
-use std::alloc::Global;
+use std::io;
 use std::iter::Peekable;
 use std::str::SplitWhitespace;
 
@@ -11,10 +11,12 @@ mod lists;
 mod numbers;
 mod operands;
 
+pub use instructions::Bytes;
+
 /// The words of a line that are yet to be read, and the last one that was.
 #[derive(Drop)]
 pub struct Args<'a> {
-    heap: Global,
+    rt: &'a HostRuntime,
     words: Peekable<SplitWhitespace<'a>>,
     last: &'a str,
 }
@@ -22,6 +24,13 @@ pub struct Args<'a> {
 /// What can be read from the next words of a line.
 pub trait Argument: Drop {
     fn read(args: &mut Args) -> Result<Self, Fault>;
+}
+
+/// Writes an answer as a line; apart, so that the stack holds a line's buffer only while it is written.
+#[inline(never)]
+fn write_line<R: Answer>(rt: &HostRuntime, answer: R) -> io::Result<()> {
+    let shown = Shown(answer);
+    println!(rt; "{shown}")
 }
 
 /// `-` is none.
@@ -35,17 +44,12 @@ impl<T: Argument> Argument for Option<T> {
 }
 
 impl<'a> Args<'a> {
-    pub fn new(heap: Global, text: &'a str) -> Args<'a> {
+    pub fn new(rt: &'a HostRuntime, text: &'a str) -> Args<'a> {
         Args {
-            heap,
+            rt,
             words: text.split_whitespace().peekable(),
             last: "",
         }
-    }
-
-    /// Where answers and bytes are made.
-    pub fn heap(&self) -> Global {
-        self.heap
     }
 
     pub fn word(&mut self) -> Result<&'a str, Fault> {
@@ -62,12 +66,13 @@ impl<'a> Args<'a> {
         T::read(self)
     }
 
-    /// What a call answers to the arguments that the next words are.
+    /// Calls with the arguments that the next words are, and writes the answer if no word is left.
     pub(crate) fn answer<T: Argument, R: Answer, F: FnOnce(T) -> R>(&mut self, call: F) -> Answered
         requires { F.IsAlwaysCallable call }
     {
         let answer = call(self.read()?);
-        Ok(Shown(answer).to_string(self.heap)?)
+        self.end()?;
+        Ok(write_line(self.rt, answer)?)
     }
 
     /// That every word has been read.

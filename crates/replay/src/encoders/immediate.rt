@@ -22,6 +22,6 @@ pub fn answer(name: &str, args: &mut Args) -> Answered {
             enc_rie_f(opcode, r1, r2, i3, i4, i5)
         }),
         "enc_rie_g" => args.answer(|(opcode, r1, i2, m3)| enc_rie_g(opcode, r1, i2, m3)),
-        _ => Err(Fault::UnknownCommand),
+        _ => Err(Fault::UnknownCommand.into()),
     }
 }

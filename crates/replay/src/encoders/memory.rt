@@ -23,6 +23,6 @@ pub fn answer(name: &str, args: &mut Args) -> Answered {
         "enc_si" => args.answer(|(opcode, b1, d1, i2)| enc_si(opcode, b1, d1, i2)),
         "enc_sil" => args.answer(|(opcode, b1, d1, i2)| enc_sil(opcode, b1, d1, i2)),
         "enc_siy" => args.answer(|(opcode, b1, d1, i2)| enc_siy(opcode, b1, d1, i2)),
-        _ => Err(Fault::UnknownCommand),
+        _ => Err(Fault::UnknownCommand.into()),
     }
 }

@@ -43,6 +43,6 @@ pub fn answer(name: &str, args: &mut Args) -> Answered {
         "enc_vrx" => args.answer(|(opcode, v1, b2, x2, d2, m3)| {
             enc_vrx(opcode, v1, b2, x2, d2, m3)
         }),
-        _ => Err(Fault::UnknownCommand),
+        _ => Err(Fault::UnknownCommand.into()),
     }
 }

@@ -9,13 +9,26 @@ impl Argument for Form {
     }
 }
 
-/// Up to eight bytes, two hexadecimal digits a byte.
-impl Argument for Vec<u8> {
-    fn read(args: &mut Args) -> Result<Vec<u8>, Fault> {
+/// Up to eight bytes, two hexadecimal digits a byte; the others are 0.
+#[derive(Clone, Copy, PartialEq, Eq, Debug)]
+pub struct Bytes {
+    bytes: [u8; 8],
+    count: usize,
+}
+
+impl Bytes {
+    pub fn as_slice(&self) -> &[u8] {
+        self.bytes.get(..self.count).unwrap_or(&[])
+    }
+}
+
+impl Argument for Bytes {
+    fn read(args: &mut Args) -> Result<Bytes, Fault> {
         let word = args.word()?;
-        if word.len() > 16 {
-            return Err(Fault::NotBytes);
-        }
-        Ok(hex::decode(args.heap(), word)?)
+        let count = word.len() / 2;
+        let mut bytes = [0; 8];
+        let given = bytes.get_mut(..count).ok_or(Fault::NotBytes)?;
+        hex::decode_to_slice(word, given)?;
+        Ok(Bytes { bytes, count })
     }
 }
