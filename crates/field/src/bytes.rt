@@ -19,5 +19,10 @@ pub(crate) fn put_number(bytes: &mut [u8], number: i64)
     ensures { bytes.new ≡ bytes_of_number (length bytes.old) (wrap (8 * length bytes.old) number) }
 {
     let wide = number.to_be_bytes();
-    bytes.copy_from_slice(&wide[8 - bytes.len()..]);
+    // the lengths of most fields stand apart, so that a copy of so many bytes is a move
+    match bytes.len() {
+        2 => bytes.copy_from_slice(&wide[6..]),
+        4 => bytes.copy_from_slice(&wide[4..]),
+        count => bytes.copy_from_slice(&wide[8 - count..]),
+    }
 }

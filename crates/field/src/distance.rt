@@ -12,7 +12,7 @@ pub fn alignment<F: FieldRead>() -> i64
     F::ALIGN
 }
 
-/// The distance, if a field of this kind can hold it in so many bytes, or why it cannot: the one verdict that patching and settling go by.
+/// The distance, if a field of this kind can hold it in so many bytes, or why it cannot: `FieldInfo`'s verdict, by which patching and settling go.
 pub fn checked_distance<F: FieldRead>(
     kind: u8,
     given: usize,
