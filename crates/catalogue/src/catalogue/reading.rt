@@ -34,7 +34,7 @@ impl Catalogue {
         ensures is { result ≡ read_rest (entries_in self.now) place bytes.now }
         ensures within { taken result ≤ length bytes.now }
     {
-        let Some(first) = bytes.first() else {
+        let [first, ..] = bytes else {
             return Ok(None);
         };
         let count = length_by_first_byte(*first);
