@@ -9,7 +9,7 @@ impl Argument for Form {
     }
 }
 
-/// Up to eight bytes, two hexadecimal digits a byte; the others are 0.
+/// Up to eight bytes, two hexadecimal digits a byte; the others are 0. An array and a count, so that no memory is asked for.
 #[derive(Clone, Copy, PartialEq, Eq, Debug)]
 pub struct Bytes {
     bytes: [u8; 8],
